@@ -1,5 +1,5 @@
-//! The tests of what no script shows, above the stores: indices, what a view is asked for, plans of edits and what is
-//! told of them (`index_grammar`, `text_index`, `search_dump`, `edit_ops`), and runs over devices that fail
+//! The tests of what no script shows, above the stores: indices, queries of views, plans of edits and the changes that
+//! they report (`index_grammar`, `text_index`, `search_dump`, `edit_ops`), and runs over devices that fail
 //! (`script_cli`, `devices`). A crate with tests is proved twice, so they have one of their own.
 #![tactic(auto)]
 

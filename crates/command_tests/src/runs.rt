@@ -11,7 +11,7 @@ use std::process::Abort;
 use std::test::Fail;
 use text_model::{Limits, PlainStore};
 
-// Gives the bytes of a script, so many a read, and fails once where so many were given.
+// Returns the bytes of a script, at most `most` at a read, and fails once after `before_failure` of them.
 #[derive(Drop)]
 struct TestReader {
     script: &'static [u8],
@@ -38,7 +38,7 @@ impl Read for TestReader {
     }
 }
 
-// Takes so many bytes a write, and no more where so many were taken: then it fails once, or takes none once.
+// Takes at most `most` bytes at a write, and `room` in all: then it fails once, or takes none once.
 #[derive(Drop)]
 struct TestWriter {
     written: Vec<u8>,
@@ -299,7 +299,7 @@ fn runs_whatever_the_reads_and_the_writes(rt: HostRuntime) -> Result<(), Fail> {
     check_lengths(&rt, rt.alloc(), &LENGTHS)
 }
 
-// How many bytes the commands print that are whole in so many bytes of the script.
+// The number of bytes that the commands print which are whole in a prefix of the script.
 fn printed_before(place: usize) -> usize {
     match place {
         0..4 => 0,
@@ -308,7 +308,7 @@ fn printed_before(place: usize) -> usize {
     }
 }
 
-// The reader fails after so many bytes of the script.
+// The reader fails after a prefix of the script.
 fn check_reader(rt: &impl Abort, alloc: Global, all: &[u8], place: usize) -> Result<(), Fail> {
     let setting = Setting {
         most_read: 3,
@@ -324,7 +324,7 @@ fn check_reader(rt: &impl Abort, alloc: Global, all: &[u8], place: usize) -> Res
     check(rt, alloc, all, setting, wanted)
 }
 
-// The writer fails after so many bytes of the answers, or takes none.
+// The writer fails after a prefix of the answers, or takes none.
 fn check_writer(
     rt: &impl Abort,
     alloc: Global,
@@ -348,7 +348,7 @@ fn check_writer(
     check(rt, alloc, all, setting, wanted)
 }
 
-// Both devices fail, the reader after so many bytes of the script, the writer after so many of the answers.
+// Both devices fail, the reader after a prefix of the script, the writer after a prefix of the answers.
 fn check_both(
     rt: &impl Abort,
     alloc: Global,
@@ -419,7 +419,7 @@ fn both_devices_fail(rt: HostRuntime) -> Result<(), Fail> {
     Ok(())
 }
 
-// A script of so many blanks, how many reads it may take, and whether the run ends by itself in these.
+// The length of a script of blanks, the number of reads allowed, and whether the run ends by itself in these.
 static ALLOWED: [(&'static [u8], u32, bool); 4] = [
     (&[b' '; 4096], 1, false),
     (&[b' '; 4096], 2, true),
@@ -486,7 +486,7 @@ impl Read for LineReader<'_> {
     }
 }
 
-// Takes all, and tells how many bytes.
+// Takes all, and counts the bytes.
 #[derive(Drop)]
 struct LineWriter<'a> {
     taken: &'a Cell<usize>,

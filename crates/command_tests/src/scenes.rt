@@ -14,12 +14,12 @@ pub struct Scene {
     pub marks: MarkTable,
 }
 
-/// A store of a text, with the newline behind it.
+/// A store of a text, with the newline after it.
 pub fn store_of<S: TextStore>(alloc: Global, text: &str) -> Result<S, AllocError> {
     store_with(alloc, text, TagSet::empty())
 }
 
-/// A store of a text whose characters have these slots, with the newline behind it.
+/// A store of a text whose characters have these slots, with the newline after it.
 pub fn store_with<S: TextStore>(alloc: Global, text: &str, slots: TagSet) -> Result<S, AllocError> {
     let mut store = S::new(alloc)?;
     let mut steps = StepList::new(alloc);

@@ -1,4 +1,4 @@
-//! Hunks, and the changes that are told of them.
+//! Hunks, and the changes that they are reported as.
 
 ghost use Rattle.std.specs.Prelude.{◌≤◌, ℕ, IfOk};
 ghost use Rattle.edit_ops.specs.Told.{AreHunks};
@@ -10,14 +10,14 @@ use std::process::Abort;
 use std::test::Fail;
 use text_model::{PlainStore, Text, TextStore};
 
-// A line, from 1, and what stands before a place in that line, in characters, bytes and units of UTF-16.
+// A line, from 1, and the column in it, in characters, bytes and UTF-16 units.
 type Place = (usize, usize, usize, usize);
 
-// A change that is told: its offset, how many characters it takes out, what it puts in, where it begins, and where what
-// it takes out ends, and what it puts in.
+// A reported change: its offset, the number of deleted characters, the inserted text, and the places where it begins,
+// where the deleted text ends and where the inserted text ends.
 type Change = (usize, usize, &'static str, Place, Place, Place);
 
-// The characters of `aé€😀`, `b` from one offset to another, the text that comes in their place, and what is told.
+// The characters of `aé€😀`, `b` from one offset to another, the text that replaces them, and the reported changes.
 struct Replaced {
     from: usize,
     to: usize,
@@ -68,7 +68,7 @@ fn is_told(change: &TextChange, wanted: &Change) -> bool {
         && place_of(change.new_end) == wanted.5
 }
 
-// The hunks that put a text in before what is taken out.
+// The hunks that insert a text before what they delete.
 fn replacing(alloc: Global, from: usize, to: usize, text: &str) -> Result<Vec<Hunk>, AllocError>
     requires { from ≤ to }
     ensures { IfOk result (λ hunks. (len : ℕ) → to ≤ len → AreHunks 0 len hunks.items) }

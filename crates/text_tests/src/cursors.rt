@@ -22,8 +22,8 @@ enum Move {
     Put(&'static str),
 }
 
-// What a cursor does from the start of `ab`, `cd`, where `b` and the newline behind it have the tag; and then whether
-// both sides of its place share the tag, where the line of the place begins, and how far behind the place the next one
+// What a cursor does from the start of `ab`, `cd`, where `b` and the newline after it have the tag; and then whether
+// both sides of its place share the tag, where the line of the place begins, and how far after the place the next one
 // begins.
 struct Looked {
     moves: &'static [Move],

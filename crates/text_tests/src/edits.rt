@@ -69,7 +69,7 @@ pub fn count(text: &Text) -> usize
     text.as_str().chars().count()
 }
 
-/// How many characters there are after a step, if it fits a text of so many.
+/// The number of characters after a step, if it fits a text of `len`.
 fn length_after(len: usize, step: &Step) -> Option<usize>
     ensures { IfSome result (λ after. StepFitsIn step.now len × (after ≡ length_after step.now len)) }
 {
@@ -89,7 +89,7 @@ fn length_after(len: usize, step: &Step) -> Option<usize>
     }
 }
 
-/// Whether steps fit a text of so many characters.
+/// Whether steps fit a text of `len` characters.
 fn fits(len: usize, steps: &[Step]) -> bool
     ensures { result ≡ true → FitsIn steps.now len }
 {
@@ -182,7 +182,7 @@ impl Numbers {
         }
     }
 
-    /// A step that fits a text of so many characters, over at most 24 of them.
+    /// A step that fits a text of `len` characters, over at most 24 of them.
     fn step(&mut self, len: usize) -> PlainStep
         requires some { 0 < len }
         requires few { len < 1000000 }
@@ -201,7 +201,7 @@ impl Numbers {
     }
 }
 
-/// An edit of one step to four, which fit a text of so many characters.
+/// An edit of one step to four, which fit a text of `len` characters.
 pub fn random_edit(
     rt: &impl Abort,
     alloc: Global,

@@ -115,7 +115,7 @@ static CASES: [Case; 15] = [
         wanted: LONG,
         rows: &[],
     },
-    // A slot is toggled before the `é`, and two marks stand after it.
+    // A slot is toggled before the `é`, and two marks are after it.
     Case {
         text: "aé",
         steps: &[
@@ -445,7 +445,7 @@ fn check_characters(rt: &impl Abort, line: &Line, wanted: &str) {
     }
 }
 
-// Whether a line has a text, of which one half is copied, and the other pushed behind it.
+// Whether a line has a text, of which one half is copied, and the other appended.
 fn has_text(line: &Line, wanted: &str) -> Result<bool, AllocError> {
     let half = line.len() / 2;
     let mut text = line.copy_text(0, half)?;

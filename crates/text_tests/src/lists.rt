@@ -80,7 +80,7 @@ fn check_found<L: LineList>(rt: &impl Abort, list: &L)
     assert!(rt; marked == Some((2, 2)) && list.marked_line(MarkNo(2)).is_none());
 }
 
-// The text of the last line, and behind it that of both.
+// The text of the last line, and then that of both.
 fn check_text<L: LineList>(rt: &impl Abort, alloc: Global, list: &L) -> Result<(), AllocError>
     requires { L.lines list.now ≡ worked_lines }
 {

@@ -79,7 +79,7 @@ fn carry_out_all(
     Ok(())
 }
 
-// A table of so many marks at most.
+// A table of at most `marks` marks.
 fn table_of(alloc: Global, marks: u16) -> Result<MarkTable, Fail> {
     let limits = Limits::new(10, 10, marks, 10, 10).ok_or("numbers in their bounds")?;
     Ok(MarkTable::new(alloc, &limits)?)

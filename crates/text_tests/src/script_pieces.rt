@@ -47,9 +47,9 @@ fn read_commands(
     }
 }
 
-// What a splitter is asked, and what it gives.
+// A call of a splitter, and its result.
 enum Step {
-    // All commands that it can give.
+    // All commands that are whole.
     Gives(&'static str),
     // The same, read into one list of words.
     Reads(&'static str),
@@ -119,7 +119,7 @@ fn check_steps(
     Ok(())
 }
 
-// Pieces of a script with the steps behind each, and the steps behind the end.
+// Pieces of a script with the steps after each, and the steps after the end.
 struct Course {
     pieces: &'static [(&'static [u8], &'static [Step])],
     last: &'static [Step],
@@ -163,7 +163,7 @@ static COURSES: [Course; 6] = [
         ],
         last: &[Step::Waits],
     },
-    // Words stand over longer and shorter ones, and over more and fewer; one command has an escape, and one many words.
+    // Words replace longer and shorter ones, and more and fewer; one command has an escape, and one many words.
     Course {
         pieces: &[
             (
@@ -177,7 +177,7 @@ static COURSES: [Course; 6] = [
         ],
         last: &[Step::Reads("|c\n"), Step::Waits],
     },
-    // What is fed behind a fault is not read.
+    // What is fed after a parse error is not read.
     Course {
         pieces: &[
             (

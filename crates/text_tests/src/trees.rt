@@ -284,7 +284,7 @@ fn many_lines(alloc: Global, count: usize) -> Result<Edit, AllocError> {
     Ok(Edit { steps })
 }
 
-// With less than 11 children for a node, on average at one of the levels, no tree of three levels has so many lines.
+// With less than 11 children for a node, on average at one of the levels, a tree of three levels has fewer lines.
 #[test]
 fn a_long_row_of_lines_fills_nodes(rt: HostRuntime) -> Result<(), Fail> {
     let mut store: TreeStore = store_of(&rt, rt.alloc(), &[])?;
