@@ -50,7 +50,7 @@ impl Handle {
         }
     }
 
-    /// Carries out a command, and keeps what it tells where that is wanted.
+    /// Carries out a command, and keeps its report where `tells` asks for it.
     pub fn call(&mut self, alloc: Global, tells: bool, bytes: &[u8], lengths: &[usize]) -> CallEnd
         ensures plain { tells ≡ false → Calls (state self.old) lengths.now bytes.now (state self.new) result }
         ensures told { tells ≡ true → CallsTold (state self.old) lengths.now bytes.now (state self.new) result }
@@ -64,7 +64,7 @@ impl Handle {
         ended
     }
 
-    /// Copies the prefix of what was said last that fits into the buffer, and returns its length.
+    /// Copies the prefix of the last output that fits into the buffer, and returns the length of that output.
     pub fn copy_said(&mut self, alloc: Global, room: &mut [u8]) -> usize
         ensures length { result ≡ min (length (said_of (state self.old))) usize.MAX }
         ensures copied { room.new ≡ over (said_of (state self.old)) room.old }
@@ -147,7 +147,7 @@ impl Handle {
         }
     }
 
-    /// Takes the next turn of the script, and keeps what it tells where that is wanted.
+    /// Takes the next turn of the script, and keeps its report where `tells` asks for it.
     pub fn take_turn(&mut self, alloc: Global, tells: bool) -> TurnEnd
         ensures plain { tells ≡ false → Takes (state self.old) (state self.new) result }
         ensures told { tells ≡ true → TakesTold (state self.old) (state self.new) result }
