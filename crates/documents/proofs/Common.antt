@@ -5,8 +5,8 @@ pub use Rattle.std.proofs.Common.{None, Ok, OnErr, Option, Result, Some, ap, app
 pub use Rattle.std.proofs.Common.{chars, cond, drop, encode_utf8_all, eq-eqb, eqb-true, false, filter, find, get_or}
 pub use Rattle.std.proofs.Common.{get_or-append-add, inl, inr, is_some, length, length-append, length-drop, length-take}
 pub use Rattle.std.proofs.Common.{map, max, min, nat_le, nat_lt, ne_eqb, not, option_and_then, option_map, refl, remove}
-pub use Rattle.std.proofs.Common.{set, slice_get, slice_index_or, slice_range, string_bytes, subst, suc, sum_by, sym}
-pub use Rattle.std.proofs.Common.{take, true, zero}
+pub use Rattle.std.proofs.Common.{rules, set, slice_get, slice_index_or, slice_range, string_bytes, subst, suc, sum_by}
+pub use Rattle.std.proofs.Common.{sym, take, true, zero}
 pub use Rattle.command_effects.proofs.LeftLaws.{AreApart-head, AreApart-tail}
 pub use Rattle.command_effects.proofs.MadeLaws.{absent_slot, among_slot, found_tag, front_same, take-more}
 pub use Rattle.command_effects.proofs.PairLaws.{spans_of-fit}
@@ -133,7 +133,7 @@ pub use Rattle.std.specs.Cmp.{Equal-is, IsTotalOrder, both_ways, nat_cmp_total, 
 pub use Rattle.std.specs.List.{All, AllByRecursion, cons_option, fold, list_any, position_from}
 pub use Rattle.std.specs.Option.{option_or}
 pub use Rattle.std.specs.Ordering.{eq_by_cmp, is_eq, nat_cmp}
-pub use Rattle.std.specs.Prelude.{IsUtf8, codes, unwrap_or}
+pub use Rattle.std.specs.Prelude.{IsUtf8, codes, is_ok, unwrap_or}
 pub use Rattle.std.specs.declared.string.String.{String}
 pub use Rattle.tag_table.specs.Priority.{next_to}
 pub use Rattle.tag_table.specs.Tags.{AreTags, Tag, Tags, first_slot, is_named, names_of, sel, slot_of, slots_of}

@@ -9,7 +9,8 @@ use Rattle.documents.proofs.Common.{get_push_cases, Empty, TooManyMarks, is_left
 use Rattle.documents.proofs.Common.{SharedMark, Widget, mark_unset, place_named, set_found, with_current, with_insert}
 use Rattle.documents.proofs.Common.{with_mark, with_shared, with_widget, AreGathered, ForetellsMarks, IsSharedName}
 use Rattle.documents.proofs.Common.{MarksTold, offset_named, offset_seen, mark_number, answered, refused, widget_named}
-use Rattle.documents.proofs.Common.{◌≢◌, filter, not, Option, None, Some, chars, string_bytes, option_map, ◌||◌}
+use Rattle.documents.proofs.Common.{Ok, Err, Memory, Answer, Does, Change, is_ok, ◌≢◌, filter, not, Option, None, Some}
+use Rattle.documents.proofs.Common.{chars, string_bytes, option_map, ◌||◌}
 use Rattle.std.specs.Prelude.{String}
 use Rattle.std.specs.declared.cmp.Ordering.TheVariants.{Less, Equal, Greater}
 
@@ -725,3 +726,12 @@ texts-more {Z} words at word bytes within is spelled =
     ap (λ bs. texts_of (take at words) ++ chars bs ∷ []) (spelled ∙ ap (λ (w : String Z). string_bytes w) is)
     ∙ sym (map-append (λ (w : String Z). chars (string_bytes w)) (take at words) (get_or words at word ∷ []))
     ∙ ap texts_of (sym (take_more words at word within))
+
+-- the marks that were foretold of a command are told of it once it is answered
+pub marks-made : {limits : LimitTable} {old new : Document} {answer : Answer} {change : Change} {widget : Widget}
+    {names : List (List ℕ)} → Does limits old new (Ok answer) change → ForetellsMarks old widget change names
+    → (window : List ℕ) → widget_named window old ≡ Some widget → MarksTold window old new names
+marks-made {limits} {old} {new} {answer} {change} {widget} {names} does foretold window found =
+    let known : Ok answer ≢ Err Memory = λ same. (let h : Ok answer ≡ Err Memory = same in absurd (cc)) in
+    subst (λ (d : Document). MarksTold window old d names) (sym (does.document known))
+    (foretold (ap is_ok (sym (does.reply known))) window found)

@@ -20,6 +20,7 @@ use Rattle.documents.proofs.Common.{Change, answered, refused, spans_shown, AreK
 use Rattle.documents.proofs.Common.{after_changes, run_changes, slot_changes, untagged, insert_at, keyed_text}
 use Rattle.documents.proofs.Common.{tags_with, within_limits, Foretells, TellsCells, is_idle, view_end, TagChange}
 use Rattle.documents.proofs.Common.{EditTold, append-nil, slice_get, nat_le, nat_lt, slice_range, sum_by, if◌then◌else◌}
+use Rattle.documents.proofs.Common.{◌≢◌, Ok, Err, Memory, Does, is_ok}
 use Rattle.text_cursor.proofs.AroundLaws.{length-characters}
 use Rattle.edit_ops.specs.Deletions.{AreApart}
 use Rattle.edit_ops.specs.declared.hunks.Hunk.{Hunk}
@@ -446,3 +447,13 @@ redo-some document widget group told on is busy tells =
     (redo-done document widget group on is busy)
     (told-by document (answered again Empty) told (group_again (replays false group) document).cells
     (cells-end widget (redo_end group) (group_again group document)) tells)
+
+-- ---- what is told of commands that are carried out
+
+-- what was foretold of a command is told of it once it is answered
+pub told-made : {limits : LimitTable} {old new : Document} {change : Change} {told : EditTold}
+    → Does limits old new (Ok Empty) change → Foretells old change told → TellsCells old.cells new.cells told
+told-made {limits} {old} {new} {change} {told} does foretold =
+    let known : Ok Empty ≢ Err Memory = λ same. (let h : Ok Empty ≡ Err Memory = same in absurd (cc)) in
+    subst (λ (d : Document). TellsCells old.cells d.cells told) (sym (does.document known))
+    (foretold (ap is_ok (sym (does.reply known))))

@@ -1,10 +1,11 @@
--- What is told of a command beforehand: the names of the marks that it moves, unless it is refused.
+-- What is told of a command: the names of the marks that it moves, unless it is refused.
 use Rattle.std.specs.Prelude.{◌≡◌, ◌≢◌, ℕ, ◌+◌, Bool, true, false, is_ok, List, Option, Some}
-use Rattle.std.specs.Prelude.{option_and_then, option_map}
+use Rattle.std.specs.Prelude.{Result, IfOk, option_and_then, option_map}
 use Rattle.std.specs.List.{All}
 use Rattle.text_model.specs.declared.places.Place.{Place}
 use Rattle.name_list.specs.Names.{AreApart}
 use Rattle.command_effects.specs.Words.{is_among}
+use Rattle.command_effects.specs.declared.answers.Fault.{Fault}
 use Rattle.documents.specs.Documents.{Document, Widget}
 use Rattle.documents.specs.Marks.{place_named}
 use Rattle.documents.specs.Names.{mark_number}
@@ -33,6 +34,12 @@ abbrev pub ForetellsMarks : Document → Widget → Change → List (List ℕ) �
 ForetellsMarks document widget change names =
     is_ok change.reply ≡ true → (window : List ℕ) → widget_named window document ≡ Some widget
     → MarksTold window document change.document names
+
+-- who follows the text is told which marks a command of a widget moved, unless it is refused
+abbrev pub AreMarksTold : Bool → Document → Document → Widget → Result (List (List ℕ)) Fault → Type 0
+AreMarksTold follows old new widget result =
+    follows ≡ true → IfOk result (λ names. (window : List ℕ) → widget_named window old ≡ Some widget
+    → MarksTold window old new names)
 
 -- ---- names that are gathered from words
 

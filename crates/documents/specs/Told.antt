@@ -1,6 +1,9 @@
--- What is told of a command beforehand: the changes of the text and of tags that it makes, unless it is refused.
-use Rattle.std.specs.Prelude.{◌≡◌, List, true, is_ok}
+-- What is told of a command: the changes of the text and of tags that it makes, unless it is refused.
+use Rattle.std.specs.Prelude.{◌≡◌, Bool, true, List, Result, Ok, Err, IfOk, is_ok}
 use Rattle.edit_ops.specs.Told.{Tells}
+use Rattle.command_effects.specs.declared.answers.Answer.{Answer}
+use Rattle.command_effects.specs.declared.answers.Answer.TheVariants.{Empty}
+use Rattle.command_effects.specs.declared.answers.Fault.{Fault}
 use Rattle.documents.specs.Documents.{Document, KeyedCell, characters}
 use Rattle.documents.specs.Promise.{Change}
 use Rattle.documents.specs.TagsTold.{after_changes, TellsTags}
@@ -15,3 +18,12 @@ pub record TellsCells (old new : List KeyedCell) (told : EditTold) : Type 0 wher
 -- where a command is answered, this is what it made of the text
 abbrev pub Foretells : Document → Change → EditTold → Type 0
 Foretells document change told = is_ok change.reply ≡ true → TellsCells document.cells change.document.cells told
+
+-- a command that gives what it changed answers nothing
+abbrev pub reply_of : {A : Type 0} → Result A Fault → Result Answer Fault
+reply_of (Ok told) = Ok Empty
+reply_of (Err fault) = Err fault
+
+-- who follows the text is told what a command made of it, unless it is refused
+abbrev pub IsTold : Bool → Document → Document → Result EditTold Fault → Type 0
+IsTold follows old new result = follows ≡ true → IfOk result (λ told. TellsCells old.cells new.cells told)

@@ -5,66 +5,75 @@ ghost use Rattle.documents.specs.Deletions.{delete_places, replace_span};
 ghost use Rattle.documents.specs.Documents.{widget_at};
 ghost use Rattle.documents.specs.Promise.{Does};
 ghost use Rattle.documents.specs.Texts.{insertion_offset};
+ghost use Rattle.documents.specs.Told.{reply_of, IsTold};
 ghost use Rattle.documents.specs.Views.{is_idle, shown};
 
+use crate::callers::Caller;
 use crate::documents::Document;
+use crate::told::EditTold;
 use crate::views::{end_of, start_of};
-use command_effects::{Answer, Fault, Pair, delete_spans, replace_pairs, spans_of};
+use command_effects::{Fault, Pair, delete_spans, replace_pairs, spans_of};
 use edit_ops::{EditRules, Target};
-use text_model::{Limits, MarkNo, TagSlot, TextStore};
+use text_model::{MarkNo, TagSlot, TextStore};
 
 impl<S: TextStore> Document<S> {
-    /// Deletes the ranges between pairs of places.
-    pub fn delete_places(&mut self, seat: usize, places: &[usize]) -> Result<Answer, Fault>
-        requires shown { seat < length self.old.widgets }
-        requires active { is_idle self.old (widget_at self.old seat) ≡ false }
-        requires within { All (λ place. place ≤ length (shown self.old (widget_at self.old seat))) places.now }
-        ensures { (limits : LimitTable) → Does limits self.old self.new result
-            (delete_places self.old (widget_at self.old seat) places.now) }
+    /// Deletes the ranges between pairs of places. What that changes.
+    pub fn delete_places(
+        &mut self,
+        caller: &Caller<'_>,
+        places: &[usize],
+    ) -> Result<EditTold, Fault>
+        requires shown { caller.now.seat < length self.old.widgets }
+        requires active { is_idle self.old (widget_at self.old caller.now.seat) ≡ false }
+        requires within { let widget = widget_at self.old caller.now.seat in
+            All (λ place. place ≤ length (shown self.old widget)) places.now }
+        ensures does { (limits : LimitTable) → Does limits self.old self.new (reply_of result)
+            (delete_places self.old (widget_at self.old caller.now.seat) places.now) }
+        ensures told { IsTold caller.now.follows self.old self.new result }
     {
-        let slot = self.seats.number(seat);
+        let told = self.told_deletion(caller, places)?;
+        let slot = self.seats.number(caller.seat);
         let start = start_of(&self.text.anchors, slot);
         let end = end_of(&self.text.anchors, slot, self.text.store.len());
         let spans = spans_of(self.alloc, start, end - start, places)?;
-        let deleted = delete_spans(
+        delete_spans(
             self.alloc,
             &mut self.text,
             start,
             end,
             &spans,
             self.settings.recording(),
-        );
-        match deleted {
-            Ok(()) => Ok(Answer::Empty),
-            Err(fault) => Err(fault),
-        }
+        )?;
+        Ok(told)
     }
 
     /// Puts texts in the place of the characters between two places, and makes the tags of their lists. The end of the
-    /// view counts as the place of its last character.
+    /// view counts as the place of its last character. What that changes.
     pub fn replace_between(
         &mut self,
-        limits: &Limits,
-        seat: usize,
+        caller: &Caller<'_>,
         from: usize,
         to: usize,
         pairs: Vec<Pair>,
-    ) -> Result<Answer, Fault>
-        requires shown { seat < length self.old.widgets }
-        requires active { is_idle self.old (widget_at self.old seat) ≡ false }
+    ) -> Result<EditTold, Fault>
+        requires shown { caller.now.seat < length self.old.widgets }
+        requires active { is_idle self.old (widget_at self.old caller.now.seat) ≡ false }
         requires ordered { from ≤ to }
-        requires within { to ≤ length (shown self.old (widget_at self.old seat)) }
-        ensures { Does limits.now self.old self.new result (replace_span limits.now self.old (widget_at self.old seat)
-            (insertion_offset self.old (widget_at self.old seat) from)
-            (insertion_offset self.old (widget_at self.old seat) to) pairs.items) }
+        requires within { to ≤ length (shown self.old (widget_at self.old caller.now.seat)) }
+        ensures does { let widget = widget_at self.old caller.now.seat in
+            Does caller.now.limits.now self.old self.new (reply_of result)
+            (replace_span caller.now.limits.now self.old widget (insertion_offset self.old widget from)
+            (insertion_offset self.old widget to) pairs.items) }
+        ensures told { IsTold caller.now.follows self.old self.new result }
     {
-        let slot = self.seats.number(seat);
+        let told = self.told_replacement(caller, from, to, &pairs)?;
+        let slot = self.seats.number(caller.seat);
         let start = start_of(&self.text.anchors, slot);
         let last = end_of(&self.text.anchors, slot, self.text.store.len()) - 1;
         let front = self.tags.len();
         let rules = EditRules {
             alloc: self.alloc,
-            limits,
+            limits: caller.limits,
             recording: self.settings.recording(),
         };
         let target = Target {
@@ -82,7 +91,7 @@ impl<S: TextStore> Document<S> {
             pairs,
         );
         match replaced {
-            Ok(()) => Ok(Answer::Empty),
+            Ok(()) => Ok(told),
             Err(fault) => {
                 self.tags.truncate(front);
                 Err(fault)

@@ -4,12 +4,15 @@ ghost use Rattle.documents.specs.Documents.{widget_at};
 ghost use Rattle.documents.specs.History.{can_redo, can_undo};
 ghost use Rattle.documents.specs.History.{edit_redo, edit_reset, edit_separator, edit_undo, modified_set};
 ghost use Rattle.documents.specs.Promise.{Does};
+ghost use Rattle.documents.specs.Told.{reply_of, IsTold};
 ghost use Rattle.documents.specs.WellFormed.{IsWellFormedDocument};
 ghost use Rattle.undo_stack.specs.Modified.{is_modified};
 
+use crate::callers::Caller;
 use crate::documents::Document;
+use crate::told::EditTold;
 use command_effects::{Answer, Fault, redo_group, undo_group};
-use text_model::{Limits, MarkNo, TextStore};
+use text_model::{MarkNo, TextStore};
 
 impl<S: TextStore> Document<S> {
     /// Whether the text is modified.
@@ -63,47 +66,49 @@ impl<S: TextStore> Document<S> {
 }
 
 impl<S: TextStore> Document<S> {
-    /// `W edit undo` (text(n), "edit undo").
-    pub fn edit_undo(&mut self, limits: &Limits, seat: usize) -> Result<Answer, Fault>
-        requires shown { seat < length self.old.widgets }
-        requires formed { IsWellFormedDocument limits.now self.old }
-        ensures { Does limits.now self.old self.new result (edit_undo self.old (widget_at self.old seat)) }
+    /// `W edit undo` (text(n), "edit undo"). What that changes.
+    pub fn edit_undo(&mut self, caller: &Caller<'_>) -> Result<EditTold, Fault>
+        requires shown { caller.now.seat < length self.old.widgets }
+        requires formed { IsWellFormedDocument caller.now.limits.now self.old }
+        ensures does { Does caller.now.limits.now self.old self.new (reply_of result)
+            (edit_undo self.old (widget_at self.old caller.now.seat)) }
+        ensures told { IsTold caller.now.follows self.old self.new result }
     {
         if !self.settings.undo {
-            return Ok(Answer::Empty);
+            return Ok(EditTold::nothing(self.alloc));
         }
-        let Some(_) = self.text.history.last_undo() else {
+        let Some(group) = self.text.history.last_undo() else {
             return Err(Fault::NothingToUndo);
         };
-        if self.is_idle(seat) {
-            return Ok(Answer::Empty);
+        if self.is_idle(caller.seat) {
+            return Ok(EditTold::nothing(self.alloc));
         }
-        let insert = MarkNo(2 * self.seats.number(seat));
-        match undo_group(self.alloc, limits, &mut self.text, insert) {
-            Ok(()) => Ok(Answer::Empty),
-            Err(fault) => Err(fault),
-        }
+        let told = self.told_reversal(caller, &group, true)?;
+        let insert = MarkNo(2 * self.seats.number(caller.seat));
+        undo_group(self.alloc, caller.limits, &mut self.text, insert)?;
+        Ok(told)
     }
 
-    /// `W edit redo` (text(n), "edit redo").
-    pub fn edit_redo(&mut self, limits: &Limits, seat: usize) -> Result<Answer, Fault>
-        requires shown { seat < length self.old.widgets }
-        requires formed { IsWellFormedDocument limits.now self.old }
-        ensures { Does limits.now self.old self.new result (edit_redo self.old (widget_at self.old seat)) }
+    /// `W edit redo` (text(n), "edit redo"). What that changes.
+    pub fn edit_redo(&mut self, caller: &Caller<'_>) -> Result<EditTold, Fault>
+        requires shown { caller.now.seat < length self.old.widgets }
+        requires formed { IsWellFormedDocument caller.now.limits.now self.old }
+        ensures does { Does caller.now.limits.now self.old self.new (reply_of result)
+            (edit_redo self.old (widget_at self.old caller.now.seat)) }
+        ensures told { IsTold caller.now.follows self.old self.new result }
     {
         if !self.settings.undo {
-            return Ok(Answer::Empty);
+            return Ok(EditTold::nothing(self.alloc));
         }
-        let Some(_) = self.text.history.last_redo() else {
+        let Some(group) = self.text.history.last_redo() else {
             return Err(Fault::NothingToRedo);
         };
-        if self.is_idle(seat) {
-            return Ok(Answer::Empty);
+        if self.is_idle(caller.seat) {
+            return Ok(EditTold::nothing(self.alloc));
         }
-        let insert = MarkNo(2 * self.seats.number(seat));
-        match redo_group(self.alloc, limits, &mut self.text, insert) {
-            Ok(()) => Ok(Answer::Empty),
-            Err(fault) => Err(fault),
-        }
+        let told = self.told_reversal(caller, &group, false)?;
+        let insert = MarkNo(2 * self.seats.number(caller.seat));
+        redo_group(self.alloc, caller.limits, &mut self.text, insert)?;
+        Ok(told)
     }
 }

@@ -1,6 +1,7 @@
 //! A document with the widgets that show it: its text, tags, marks, history and options.
 #![tactic(auto)]
 
+mod callers;
 mod deletions;
 mod documents;
 mod history;
@@ -20,6 +21,7 @@ mod told;
 mod views;
 mod widgets;
 
+pub use callers::Caller;
 pub use documents::Document;
 pub use edit_ops::{ChangeList, Spot, TextChange};
 pub use keys::Key;

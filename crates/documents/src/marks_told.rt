@@ -1,6 +1,6 @@
 //! What commands tell of marks: the names of those that they move.
 
-ghost use Rattle.std.specs.Prelude.{◌≡◌, ◌≢◌, ◌+◌, ◌<◌, ◌≤◌, ◌++◌, ◌∷◌, [], ℕ, List, Some, chars, length};
+ghost use Rattle.std.specs.Prelude.{◌≡◌, ◌≢◌, ◌+◌, ◌<◌, ◌≤◌, ◌++◌, ◌∷◌, [], ℕ, List, Some, true, chars, length};
 ghost use Rattle.std.specs.Prelude.{IfOk, MatchOption, OnOk};
 ghost use Rattle.std.specs.Bool.{Decides};
 ghost use Rattle.std.specs.BTreeSet.{contains};
@@ -13,6 +13,7 @@ ghost use Rattle.documents.specs.MarksTold.{AreGathered, ForetellsMarks, offset_
 ghost use Rattle.documents.specs.Names.{mark_number};
 ghost use Rattle.documents.specs.Views.{shown};
 
+use crate::callers::Caller;
 use crate::documents::Document;
 use mark_table::WidgetMark;
 use std::alloc::{AllocError, Global};
@@ -80,20 +81,23 @@ impl<S: TextStore> Document<S> {
     /// The mark that it moves to set the mark of a name to a place of the view, unless that is refused.
     pub fn told_mark_set(
         &self,
-        seat: usize,
+        caller: &Caller<'_>,
         name: &str,
         place: usize,
     ) -> Result<MovedMarks, AllocError>
-        requires shown { seat < length self.now.widgets }
-        requires within { place ≤ length (shown self.now (widget_at self.now seat)) }
-        ensures { let widget = widget_at self.now seat in
-            IfOk result (λ told. (limits : LimitTable) → ForetellsMarks self.now widget
+        requires shown { caller.now.seat < length self.now.widgets }
+        requires within { place ≤ length (shown self.now (widget_at self.now caller.now.seat)) }
+        ensures { let widget = widget_at self.now caller.now.seat in
+            caller.now.follows ≡ true → IfOk result (λ told. (limits : LimitTable) → ForetellsMarks self.now widget
             (set_found limits self.now widget (chars name.now) (mark_offset self.now widget (chars name.now) place)
             (place_named self.now widget (chars name.now))) told) }
     {
         let mut told = MovedMarks::new(self.alloc);
-        let offset = self.mark_offset(seat, name, place);
-        if !self.stands_at(seat, name, offset) {
+        if !caller.follows {
+            return Ok(told);
+        }
+        let offset = self.mark_offset(caller.seat, name, place);
+        if !self.stands_at(caller.seat, name, offset) {
             told.push(name)?;
         }
         Ok(told)
@@ -131,12 +135,19 @@ impl<S: TextStore> Document<S> {
     }
 
     /// The marks that `unset_marks` takes out.
-    pub fn told_mark_unset(&self, names: &[String]) -> Result<MovedMarks, AllocError>
-        ensures { IfOk result (λ told. (widget : Widget) →
+    pub(crate) fn told_mark_unset(
+        &self,
+        caller: &Caller<'_>,
+        names: &[String],
+    ) -> Result<MovedMarks, AllocError>
+        ensures { caller.now.follows ≡ true → IfOk result (λ told. (widget : Widget) →
             ForetellsMarks self.now widget (mark_unset self.now (texts_of names.now)) told) }
     {
-        let mut seen = BTreeSet::new(self.alloc);
         let mut told = MovedMarks::new(self.alloc);
+        if !caller.follows {
+            return Ok(told);
+        }
+        let mut seen = BTreeSet::new(self.alloc);
         for name in names {
             self.tell_shared(&mut seen, &mut told, name.as_str())?;
         }

@@ -5,6 +5,7 @@ ghost use Rattle.text_model.specs.LimitTable.{LimitTable};
 ghost use Rattle.documents.specs.Documents.{widget_at};
 ghost use Rattle.documents.specs.Views.{shown};
 ghost use Rattle.documents.specs.Promise.{Does};
+ghost use Rattle.documents.specs.Told.{reply_of, IsTold};
 ghost use Rattle.edit_ops.specs.Tagging.{tagged};
 ghost use Rattle.tcl_words.specs.ListText.{list_text};
 ghost use Rattle.tcl_words.specs.Unread.{texts_of};
@@ -14,7 +15,9 @@ ghost use Rattle.documents.specs.Tags.{lowered};
 ghost use Rattle.command_effects.specs.Listing.{range_words, begun};
 ghost use Rattle.command_effects.specs.declared.answers.Answer.TheVariants.{Empty};
 
+use crate::callers::Caller;
 use crate::documents::Document;
+use crate::told::EditTold;
 use crate::views::view_of;
 use command_effects::{
     Answer, Fault, clear_slots, delete_names, deleted_slots, find_tag, is_one_too_many, push_names,
@@ -22,7 +25,7 @@ use command_effects::{
 };
 use std::alloc::AllocError;
 use tag_table::NoSuchTag;
-use text_model::{Limits, TagSlot, Text, TextStore};
+use text_model::{TagSlot, Text, TextStore};
 
 impl<S: TextStore> Document<S> {
     /// The names of all tags as a list, from the lowest.
@@ -124,24 +127,27 @@ impl<S: TextStore> Document<S> {
 }
 
 impl<S: TextStore> Document<S> {
-    /// Puts a tag on the ranges between pairs of places, and makes it if it is new.
+    /// Puts a tag on the ranges between pairs of places, and makes it if it is new. What that changes.
     pub fn add_spans(
         &mut self,
-        limits: &Limits,
-        seat: usize,
+        caller: &Caller<'_>,
         name: &str,
         places: &[usize],
-    ) -> Result<Answer, Fault>
-        requires shown { seat < length self.old.widgets }
-        requires within { All (λ place. place ≤ length (shown self.old (widget_at self.old seat))) places.now }
-        ensures { Does limits.now self.old self.new result
-            (add_spans limits.now self.old (widget_at self.old seat) (chars name.now) places.now) }
+    ) -> Result<EditTold, Fault>
+        requires shown { caller.now.seat < length self.old.widgets }
+        requires within { let widget = widget_at self.old caller.now.seat in
+            All (λ place. place ≤ length (shown self.old widget)) places.now }
+        ensures does { Does caller.now.limits.now self.old self.new (reply_of result)
+            (add_spans caller.now.limits.now self.old (widget_at self.old caller.now.seat) (chars name.now)
+            places.now) }
+        ensures told { IsTold caller.now.follows self.old self.new result }
     {
-        if is_one_too_many(limits, &self.tags, name) {
+        if is_one_too_many(caller.limits, &self.tags, name) {
             return Err(Fault::TooManyTags);
         }
-        let number = self.seats.number(seat);
-        let spans = self.spans_at(seat, places)?;
+        let number = self.seats.number(caller.seat);
+        let spans = self.spans_at(caller.seat, places)?;
+        let tags = self.span_tags(caller, name, &spans, true)?;
         let front = self.tags.len();
         let tagged = tag_spans(
             self.alloc,
@@ -152,7 +158,7 @@ impl<S: TextStore> Document<S> {
             &spans,
         );
         match tagged {
-            Ok(()) => Ok(Answer::Empty),
+            Ok(()) => Ok(EditTold::of_tags(self.alloc, tags)),
             Err(fault) => {
                 self.tags.truncate(front);
                 Err(fault)
@@ -160,44 +166,43 @@ impl<S: TextStore> Document<S> {
         }
     }
 
-    /// Takes a tag off the ranges between pairs of places, if there is one of that name.
+    /// Takes a tag off the ranges between pairs of places, if there is one of that name. What that changes.
     pub fn remove_spans(
         &mut self,
-        seat: usize,
+        caller: &Caller<'_>,
         name: &str,
         places: &[usize],
-    ) -> Result<Answer, Fault>
-        requires shown { seat < length self.old.widgets }
-        requires within { All (λ place. place ≤ length (shown self.old (widget_at self.old seat))) places.now }
-        ensures { (limits : LimitTable) → Does limits self.old self.new result
-            (remove_spans self.old (widget_at self.old seat) (chars name.now) places.now) }
+    ) -> Result<EditTold, Fault>
+        requires shown { caller.now.seat < length self.old.widgets }
+        requires within { let widget = widget_at self.old caller.now.seat in
+            All (λ place. place ≤ length (shown self.old widget)) places.now }
+        ensures does { (limits : LimitTable) → Does limits self.old self.new (reply_of result)
+            (remove_spans self.old (widget_at self.old caller.now.seat) (chars name.now) places.now) }
+        ensures told { IsTold caller.now.follows self.old self.new result }
     {
-        let number = self.seats.number(seat);
+        let number = self.seats.number(caller.seat);
         let Some(slot) = find_tag(&self.tags, TagSlot(number), name) else {
-            return Ok(Answer::Empty);
+            return Ok(EditTold::nothing(self.alloc));
         };
-        let spans = self.spans_at(seat, places)?;
-        match set_slot(self.alloc, &mut self.text, &spans, slot, false) {
-            Ok(()) => Ok(Answer::Empty),
-            Err(fault) => Err(fault),
-        }
+        let spans = self.spans_at(caller.seat, places)?;
+        let tags = self.span_tags(caller, name, &spans, false)?;
+        set_slot(self.alloc, &mut self.text, &spans, slot, false)?;
+        Ok(EditTold::of_tags(self.alloc, tags))
     }
 
-    /// Takes tags off all characters, and their names out. `sel` and unknown names are skipped.
-    pub fn delete_tags(&mut self, names: &[String]) -> Result<Answer, Fault>
-        ensures { (limits : LimitTable) → Does limits self.old self.new result
+    /// Takes tags off all characters, and their names out. `sel` and unknown names are skipped. What that changes.
+    pub fn delete_tags(&mut self, caller: &Caller<'_>, names: &[String]) -> Result<EditTold, Fault>
+        ensures does { (limits : LimitTable) → Does limits self.old self.new (reply_of result)
             (tag_delete self.old (texts_of names.now)) }
+        ensures told { IsTold caller.now.follows self.old self.new result }
     {
+        let told = self.told_tag_delete(caller, names)?;
         let slots = deleted_slots(self.alloc, &self.tags, names)?;
-        match clear_slots(self.alloc, &mut self.text, &slots) {
-            Err(fault) => Err(fault),
-            Ok(()) => {
-                delete_names(&mut self.tags, names);
-                // Where the tags are counted, they are known to be those of a table.
-                let _count = self.tags.len();
-                Ok(Answer::Empty)
-            }
-        }
+        clear_slots(self.alloc, &mut self.text, &slots)?;
+        delete_names(&mut self.tags, names);
+        // Where the tags are counted, they are known to be those of a table.
+        let _count = self.tags.len();
+        Ok(told)
     }
 
     /// Puts a tag highest, or just above another one. The tag is the word at a position, the other one that behind it.

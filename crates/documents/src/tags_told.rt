@@ -5,7 +5,6 @@ ghost use Rattle.std.specs.Prelude.{length, option_map, slice_get, sum_by, IfOk,
 ghost use Rattle.std.specs.FinSet as set;
 ghost use Rattle.std.specs.List.{All};
 ghost use Rattle.text_model.specs.Content.{slot_sets};
-ghost use Rattle.text_model.specs.LimitTable.{LimitTable};
 ghost use Rattle.text_model.specs.declared.limits.TheConstants.Limits.{MOST_WIDGETS};
 ghost use Rattle.name_list.specs.Names.{Named};
 ghost use Rattle.tcl_words.specs.Unread.{texts_of};
@@ -20,12 +19,12 @@ ghost use Rattle.documents.specs.Edits.{keys_or, with_tag};
 ghost use Rattle.documents.specs.Kept.{AreSeats};
 ghost use Rattle.documents.specs.Keys.{keys_listed, keys_named, keys_of, key_pairs};
 ghost use Rattle.documents.specs.Names.{key_of};
-ghost use Rattle.documents.specs.Tags.{add_spans, remove_spans, tag_delete};
+ghost use Rattle.documents.specs.Tags.{tag_delete};
 ghost use Rattle.documents.specs.TagsGone.{AreGone, TellsGone};
 ghost use Rattle.documents.specs.TagsTold.{run_changes, slot_changes, AreKeysOf, TellsPairs, TellsTags};
 ghost use Rattle.documents.specs.Told.{Foretells};
-ghost use Rattle.documents.specs.Views.{shown};
 
+use crate::callers::Caller;
 use crate::documents::Document;
 use crate::keys::{Key, keys_in, keys_named, slots_named};
 use crate::tag_lists::TagList;
@@ -222,67 +221,45 @@ fn tell_gone<S: TextStore>(
 // ---- commands on tags
 
 impl<S: TextStore> Document<S> {
-    /// What it tells to put the tag of a name, as a widget knows it, on spans, or to take it off them.
-    fn span_tags(
+    /// What it changes to put the tag of a name, as a widget knows it, on spans, or to take it off them.
+    pub(crate) fn span_tags(
         &self,
-        seat: usize,
+        caller: &Caller<'_>,
         name: &str,
         spans: &[Span],
         on: bool,
     ) -> Result<TagList, AllocError>
-        requires shown { seat < length self.now.widgets }
+        requires shown { caller.now.seat < length self.now.widgets }
         requires fit { All (SpanFits (length self.now.cells)) spans.now }
-        ensures { IfOk result (λ told. TellsTags told self.now.cells
-            (with_tag (key_of (widget_at self.now seat) (chars name.now)) on spans.now self.now.cells)) }
+        ensures { let key = key_of (widget_at self.now caller.now.seat) (chars name.now) in
+            caller.now.follows ≡ true → IfOk result (λ told. TellsTags told self.now.cells
+            (with_tag key on spans.now self.now.cells)) }
     {
         let mut told = TagList::new(self.alloc);
-        let key = Key::named(self.alloc, self.seats.name(seat), name)?;
+        if !caller.follows {
+            return Ok(told);
+        }
+        let key = Key::named(self.alloc, self.seats.name(caller.seat), name)?;
         let runs = union(self.alloc, spans)?;
-        match find_tag(&self.tags, TagSlot(self.seats.number(seat)), name) {
+        match find_tag(&self.tags, TagSlot(self.seats.number(caller.seat)), name) {
             Some(slot) => told.push_spans(&self.text.store, slot, &key, &runs, on)?,
             None => told.push_whole(&key, &runs, on)?,
         }
         Ok(told)
     }
 
-    /// What `add_spans` changes, unless it is refused.
-    pub fn told_tag_add(
-        &self,
-        seat: usize,
-        name: &str,
-        places: &[usize],
-    ) -> Result<EditTold, AllocError>
-        requires shown { seat < length self.now.widgets }
-        requires within { All (λ place. place ≤ length (shown self.now (widget_at self.now seat))) places.now }
-        ensures { IfOk result (λ told. (limits : LimitTable) → Foretells self.now
-            (add_spans limits self.now (widget_at self.now seat) (chars name.now) places.now) told) }
-    {
-        let spans = self.spans_at(seat, places)?;
-        let tags = self.span_tags(seat, name, &spans, true)?;
-        Ok(EditTold::of_tags(self.alloc, tags))
-    }
-
-    /// What `remove_spans` changes.
-    pub fn told_tag_remove(
-        &self,
-        seat: usize,
-        name: &str,
-        places: &[usize],
-    ) -> Result<EditTold, AllocError>
-        requires shown { seat < length self.now.widgets }
-        requires within { All (λ place. place ≤ length (shown self.now (widget_at self.now seat))) places.now }
-        ensures { IfOk result (λ told. Foretells self.now
-            (remove_spans self.now (widget_at self.now seat) (chars name.now) places.now) told) }
-    {
-        let spans = self.spans_at(seat, places)?;
-        let tags = self.span_tags(seat, name, &spans, false)?;
-        Ok(EditTold::of_tags(self.alloc, tags))
-    }
-
     /// What `delete_tags` changes.
-    pub fn told_tag_delete(&self, names: &[String]) -> Result<EditTold, AllocError>
-        ensures { IfOk result (λ told. Foretells self.now (tag_delete self.now (texts_of names.now)) told) }
+    pub(crate) fn told_tag_delete(
+        &self,
+        caller: &Caller<'_>,
+        names: &[String],
+    ) -> Result<EditTold, AllocError>
+        ensures { caller.now.follows ≡ true → IfOk result (λ told.
+            Foretells self.now (tag_delete self.now (texts_of names.now)) told) }
     {
+        if !caller.follows {
+            return Ok(EditTold::nothing(self.alloc));
+        }
         let tags = tell_gone(self.alloc, &self.text.store, &self.tags, names)?;
         Ok(EditTold::of_tags(self.alloc, tags))
     }

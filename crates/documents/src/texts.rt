@@ -2,13 +2,16 @@ ghost use Rattle.std.specs.Prelude.{◌≡◌, ◌<◌, ◌≤◌, ◌-◌, fals
 ghost use Rattle.documents.specs.Documents.{widget_at};
 ghost use Rattle.documents.specs.Promise.{Does};
 ghost use Rattle.documents.specs.Texts.{insert_at, insertion_offset};
+ghost use Rattle.documents.specs.Told.{reply_of, IsTold};
 ghost use Rattle.documents.specs.Views.{is_idle, shown};
 
+use crate::callers::Caller;
 use crate::documents::Document;
-use command_effects::{Answer, Fault, Pair, put_pairs};
+use crate::told::EditTold;
+use command_effects::{Fault, Pair, put_pairs};
 use edit_ops::EditRules;
 use std::alloc::AllocError;
-use text_model::{Limits, TagSlot, Text, TextStore};
+use text_model::{TagSlot, Text, TextStore};
 
 impl<S: TextStore> Document<S> {
     /// The characters from one place to another; none where the second isn't behind the first.
@@ -46,29 +49,30 @@ impl<S: TextStore> Document<S> {
         (view.s + place).min(view.e - 1)
     }
 
-    /// Puts texts in at an offset, each behind the one before it, and makes the tags of their lists.
+    /// Puts texts in at an offset, each behind the one before it, and makes the tags of their lists. What that changes.
     pub fn insert_at(
         &mut self,
-        limits: &Limits,
-        seat: usize,
+        caller: &Caller<'_>,
         at: usize,
         pairs: Vec<Pair>,
-    ) -> Result<Answer, Fault>
-        requires shown { seat < length self.old.widgets }
+    ) -> Result<EditTold, Fault>
+        requires shown { caller.now.seat < length self.old.widgets }
         requires within { at < length self.old.cells }
-        ensures { Does limits.now self.old self.new result
-            (insert_at limits.now self.old (widget_at self.old seat) at pairs.items) }
+        ensures does { Does caller.now.limits.now self.old self.new (reply_of result)
+            (insert_at caller.now.limits.now self.old (widget_at self.old caller.now.seat) at pairs.items) }
+        ensures told { IsTold caller.now.follows self.old self.new result }
     {
-        let slot = TagSlot(self.seats.number(seat));
+        let told = self.told_insertion(caller, at, &pairs)?;
+        let slot = TagSlot(self.seats.number(caller.seat));
         let front = self.tags.len();
         let rules = EditRules {
             alloc: self.alloc,
-            limits,
+            limits: caller.limits,
             recording: self.settings.recording(),
         };
         let put = put_pairs(&rules, &mut self.tags, slot, &mut self.text, at, pairs);
         match put {
-            Ok(()) => Ok(Answer::Empty),
+            Ok(()) => Ok(told),
             Err(fault) => {
                 self.tags.truncate(front);
                 Err(fault)

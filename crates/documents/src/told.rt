@@ -1,6 +1,6 @@
 //! What commands that edit the text tell.
 
-ghost use Rattle.std.specs.Prelude.{◌≡◌, ◌<◌, ◌≤◌, ◌++◌, [], false, length, map, List, OnOk, IfOk, IsSome};
+ghost use Rattle.std.specs.Prelude.{◌≡◌, ◌<◌, ◌≤◌, ◌++◌, [], true, false, length, map, List, OnOk, IfOk, IsSome};
 ghost use Rattle.std.specs.List.{All};
 ghost use Rattle.text_model.specs.LimitTable.{LimitTable, AreLimits};
 ghost use Rattle.undo_stack.specs.Fits.{repeated_group};
@@ -9,13 +9,13 @@ ghost use Rattle.edit_ops.specs.Told.{patched_by, putting, AreHunks};
 ghost use Rattle.command_effects.specs.Lists.{Pair as PairOfWords};
 ghost use Rattle.documents.specs.Deletions.{delete_places, replace_span};
 ghost use Rattle.documents.specs.Documents.{characters, widget_at, KeyedCell};
-ghost use Rattle.documents.specs.History.{edit_redo, edit_undo, group_again};
+ghost use Rattle.documents.specs.History.{group_again};
 ghost use Rattle.documents.specs.TagsTold.{untagged, TellsTags};
 ghost use Rattle.documents.specs.Texts.{insert_at, insertion_offset};
 ghost use Rattle.documents.specs.Told.{Foretells, TellsCells};
 ghost use Rattle.documents.specs.Views.{is_idle, shown};
-ghost use Rattle.documents.specs.WellFormed.{IsWellFormedDocument};
 
+use crate::callers::Caller;
 use crate::documents::Document;
 use crate::tag_lists::TagList;
 use crate::tags_told::{bare_tags, bared_slots, count_in, run_tags};
@@ -25,16 +25,22 @@ use edit_ops::{
     ChangeList, Hunk, deleted_runs, push_removal, push_text, reversal_of, take_spans, tell,
 };
 use std::alloc::{AllocError, Global};
-use text_model::{Limits, TextStore};
+use text_model::{Text, TextStore};
 use undo_stack::Group;
 
-/// Adds the hunks that put texts in at an offset, each behind the one before it.
-fn push_texts(hunks: &mut Vec<Hunk>, at: usize, pairs: Vec<Pair>) -> Result<(), AllocError>
+/// Adds the hunks that put copies of texts in at an offset, each behind the one before it.
+fn push_texts(
+    alloc: Global,
+    hunks: &mut Vec<Hunk>,
+    at: usize,
+    pairs: &[Pair],
+) -> Result<(), AllocError>
     ensures { OnOk result (hunks.new.items
-        ≡ hunks.old.items ++ putting at (map (λ (pair : PairOfWords). pair.text) pairs.items)) }
+        ≡ hunks.old.items ++ putting at (map (λ (pair : PairOfWords). pair.text) pairs.now)) }
 {
     for pair in pairs {
-        push_text(hunks, at, pair.text)?;
+        let copy = String::from_str(alloc, pair.text.as_str())?;
+        push_text(hunks, at, Text::new(copy))?;
     }
     Ok(())
 }
@@ -78,32 +84,43 @@ impl<S: TextStore> Document<S> {
     }
 
     /// What `insert_at` changes, unless it is refused.
-    pub fn told_insertion(
+    pub(crate) fn told_insertion(
         &self,
-        seat: usize,
+        caller: &Caller<'_>,
         at: usize,
-        pairs: Vec<Pair>,
+        pairs: &[Pair],
     ) -> Result<EditTold, AllocError>
-        requires shown { seat < length self.now.widgets }
+        requires shown { caller.now.seat < length self.now.widgets }
         requires within { at < length self.now.cells }
-        ensures { IfOk result (λ told. (limits : LimitTable) → AreLimits limits →
-            Foretells self.now (insert_at limits self.now (widget_at self.now seat) at pairs.items) told) }
+        ensures { caller.now.follows ≡ true → IfOk result (λ told. (limits : LimitTable) → AreLimits limits →
+            Foretells self.now (insert_at limits self.now (widget_at self.now caller.now.seat) at pairs.now) told) }
     {
-        let tags = self.pair_tags(seat, at, at, &pairs)?;
+        if !caller.follows {
+            return Ok(EditTold::nothing(self.alloc));
+        }
+        let tags = self.pair_tags(caller.seat, at, at, pairs)?;
         let mut hunks = Vec::with_capacity(self.alloc, pairs.len())?;
-        push_texts(&mut hunks, at, pairs)?;
+        push_texts(self.alloc, &mut hunks, at, pairs)?;
         Ok(self.tell_hunks(hunks, tags)?)
     }
 
     /// What `delete_places` changes, unless it is refused.
-    pub fn told_deletion(&self, seat: usize, places: &[usize]) -> Result<EditTold, AllocError>
-        requires shown { seat < length self.now.widgets }
-        requires active { is_idle self.now (widget_at self.now seat) ≡ false }
-        requires within { All (λ place. place ≤ length (shown self.now (widget_at self.now seat))) places.now }
-        ensures { IfOk result (λ told.
-            Foretells self.now (delete_places self.now (widget_at self.now seat) places.now) told) }
+    pub(crate) fn told_deletion(
+        &self,
+        caller: &Caller<'_>,
+        places: &[usize],
+    ) -> Result<EditTold, AllocError>
+        requires shown { caller.now.seat < length self.now.widgets }
+        requires active { is_idle self.now (widget_at self.now caller.now.seat) ≡ false }
+        requires within { let widget = widget_at self.now caller.now.seat in
+            All (λ place. place ≤ length (shown self.now widget)) places.now }
+        ensures { caller.now.follows ≡ true → IfOk result (λ told.
+            Foretells self.now (delete_places self.now (widget_at self.now caller.now.seat) places.now) told) }
     {
-        let slot = self.seats.number(seat);
+        if !caller.follows {
+            return Ok(EditTold::nothing(self.alloc));
+        }
+        let slot = self.seats.number(caller.seat);
         let store = &self.text.store;
         let start = start_of(&self.text.anchors, slot);
         let end = end_of(&self.text.anchors, slot, store.len());
@@ -118,76 +135,52 @@ impl<S: TextStore> Document<S> {
     }
 
     /// What `replace_between` changes, unless it is refused.
-    pub fn told_replacement(
+    pub(crate) fn told_replacement(
         &self,
-        seat: usize,
+        caller: &Caller<'_>,
         from: usize,
         to: usize,
-        pairs: Vec<Pair>,
+        pairs: &[Pair],
     ) -> Result<EditTold, AllocError>
-        requires shown { seat < length self.now.widgets }
-        requires active { is_idle self.now (widget_at self.now seat) ≡ false }
+        requires shown { caller.now.seat < length self.now.widgets }
+        requires active { is_idle self.now (widget_at self.now caller.now.seat) ≡ false }
         requires ordered { from ≤ to }
-        requires within { to ≤ length (shown self.now (widget_at self.now seat)) }
-        ensures { IfOk result (λ told. (limits : LimitTable) → AreLimits limits →
-            Foretells self.now (replace_span limits self.now (widget_at self.now seat)
-            (insertion_offset self.now (widget_at self.now seat) from)
-            (insertion_offset self.now (widget_at self.now seat) to) pairs.items) told) }
+        requires within { to ≤ length (shown self.now (widget_at self.now caller.now.seat)) }
+        ensures { let widget = widget_at self.now caller.now.seat in
+            caller.now.follows ≡ true → IfOk result (λ told. (limits : LimitTable) → AreLimits limits →
+            Foretells self.now (replace_span limits self.now widget (insertion_offset self.now widget from)
+            (insertion_offset self.now widget to) pairs.now) told) }
     {
-        let start = self.insertion_offset(seat, from);
-        let end = self.insertion_offset(seat, to);
-        let tags = self.pair_tags(seat, start, end, &pairs)?;
+        if !caller.follows {
+            return Ok(EditTold::nothing(self.alloc));
+        }
+        let start = self.insertion_offset(caller.seat, from);
+        let end = self.insertion_offset(caller.seat, to);
+        let tags = self.pair_tags(caller.seat, start, end, pairs)?;
         let mut hunks = Vec::with_capacity(self.alloc, pairs.len().saturating_add(1))?;
-        push_texts(&mut hunks, start, pairs)?;
+        push_texts(self.alloc, &mut hunks, start, pairs)?;
         push_removal(self.alloc, &mut hunks, start, end)?;
         Ok(self.tell_hunks(hunks, tags)?)
     }
 
-    /// What it tells where the actions of a group are made once more, or, back, reverted from the last.
-    fn tell_reversal(
+    /// What it changes to make the actions of a group once more, or, back, to revert them from the last.
+    pub(crate) fn told_reversal(
         &self,
+        caller: &Caller<'_>,
         group: &Group<'_>,
         back: bool,
-        limit: usize,
     ) -> Result<EditTold, AllocError>
-        requires fits { IsSome (repeated_group limit (replays back group.now) (characters self.now.cells)) }
-        ensures { IfOk result (λ told. TellsCells self.now.cells
+        requires fits { IsSome
+            (repeated_group caller.now.limits.now.chars (replays back group.now) (characters self.now.cells)) }
+        ensures { caller.now.follows ≡ true → IfOk result (λ told. TellsCells self.now.cells
             (group_again (replays back group.now) self.now).cells told) }
     {
+        if !caller.follows {
+            return Ok(EditTold::nothing(self.alloc));
+        }
+        let limit = caller.limits.chars();
         let made = reversal_of(self.alloc, &self.text.store, group, back, limit)?;
         let tags = run_tags(self.alloc, &self.seats, &self.tags, &made.runs)?;
         Ok(self.tell_hunks(made.hunks, tags)?)
-    }
-
-    /// What `edit_undo` changes, unless it is refused.
-    pub fn told_undo(&self, limits: &Limits, seat: usize) -> Result<EditTold, AllocError>
-        requires shown { seat < length self.now.widgets }
-        requires formed { IsWellFormedDocument limits.now self.now }
-        ensures { IfOk result (λ told. Foretells self.now (edit_undo self.now (widget_at self.now seat)) told) }
-    {
-        let nothing = EditTold::nothing(self.alloc);
-        if !self.settings.undo || self.is_idle(seat) {
-            return Ok(nothing);
-        }
-        let Some(group) = self.text.history.last_undo() else {
-            return Ok(nothing);
-        };
-        Ok(self.tell_reversal(&group, true, limits.chars())?)
-    }
-
-    /// What `edit_redo` changes, unless it is refused.
-    pub fn told_redo(&self, limits: &Limits, seat: usize) -> Result<EditTold, AllocError>
-        requires shown { seat < length self.now.widgets }
-        requires formed { IsWellFormedDocument limits.now self.now }
-        ensures { IfOk result (λ told. Foretells self.now (edit_redo self.now (widget_at self.now seat)) told) }
-    {
-        let nothing = EditTold::nothing(self.alloc);
-        if !self.settings.undo || self.is_idle(seat) {
-            return Ok(nothing);
-        }
-        let Some(group) = self.text.history.last_redo() else {
-            return Ok(nothing);
-        };
-        Ok(self.tell_reversal(&group, false, limits.chars())?)
     }
 }

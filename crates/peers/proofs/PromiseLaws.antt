@@ -114,3 +114,16 @@ fault-defined {A} found defined fault gives is other =
 pub value-defined : {A : Type 0} (found defined : Result A Fault) (value : A) → Gives found defined → found ≡ Ok value →
     defined ≡ Ok value
 value-defined found defined value gives is = sym (gives (value≢memory found value is)) ∙ is
+
+-- what follows a value that was found, or the fault that was
+pub does-next : {limits : LimitTable} {old new : Document} {result : Result Answer Fault} {A : Type 0}
+    (defined : Result A Fault) (value : A) (next : A → Change) → Gives (Ok value) defined
+    → Does limits old new result (next value) → Does limits old new result (change_with old defined next)
+does-next defined value next gives does =
+    does-found defined value next (sym (gives (value≢memory (Ok value) value refl))) does
+
+pub does-fault : {A : Type 0} (limits : LimitTable) (old : Document) (defined : Result A Fault) (fault : Fault)
+    (next : A → Change) → Gives (Err fault) defined → Does limits old old (Err fault) (change_with old defined next)
+does-fault {A} limits old defined fault next gives =
+    does-refused limits old defined fault next (λ other. sym (gives (λ memory. other
+    (let h : refusal A fault ≡ refusal A Memory = memory in let same : fault ≡ Memory = cc in same))))

@@ -1,44 +1,63 @@
 -- What is told of a command of a world.
-use Rattle.peers.proofs.Common.{◌≡◌, ℕ, ◌<◌, true, false, List, [], ◌∷◌, Option, Some, None, Ok, refl, sym, ap, ◌∙◌}
-use Rattle.peers.proofs.Common.{arith, get_or, length, subst, true≢false, String, is_ok, string_bytes, if◌then◌else◌}
-use Rattle.peers.proofs.Common.{bytes_eq-Decides, texts_of, reading, Answer, is_same, literal, Document, Widget}
-use Rattle.peers.proofs.Common.{is_window_name, Change, Foretells, TellsCells, IsWellFormedDocument, widget_named}
-use Rattle.peers.proofs.Common.{EditTold, command, Makes, changed, create_shaped, destroy_shaped, on_found, on_home}
-use Rattle.peers.proofs.Common.{on_widget, step, TellsAt, TellsOf, cells_at, no_edit, IsWellFormed, World, all_windows}
-use Rattle.peers.proofs.Common.{document_at, home}
+use Rattle.peers.proofs.Common.{◌≡◌, ℕ, ◌<◌, true, false, List, [], ◌∷◌, Some, None, Ok, Err, refl, sym, ap, ◌∙◌, arith}
+use Rattle.peers.proofs.Common.{get_or, String, string_bytes, texts_of, length, Result, IfOk, Fault, subst, true≢false}
+use Rattle.peers.proofs.Common.{bytes_eq-Decides, reading, Answer, if◌then◌else◌, step, create_shaped, destroy_shaped}
+use Rattle.peers.proofs.Common.{on_widget, is_frugal_reading, are_frugal, is_same, literal, Document, Widget}
+use Rattle.peers.proofs.Common.{is_window_name, IsWellFormedDocument, widget_named, MarksTold, Shape, PeerCreate, Makes}
+use Rattle.peers.proofs.Common.{changed, peer_create, TellsAt, TellsOf, MarksTellAt, MarksTellOf, edits_reading}
+use Rattle.peers.proofs.Common.{edits_text, no_edit, IsWellFormed, World, all_windows, document_at, home, MatchBool}
+use Rattle.peers.proofs.Common.{TellsAll, Told, told-still}
 use Rattle.std.specs.Str.{chars}
+use Rattle.peers.specs.Told.{answered}
 use Rattle.peers.proofs.FrontLaws.{set-at}
 use Rattle.peers.proofs.HomeStepLaws.{home-is}
+use Rattle.peers.proofs.MarksToldLaws.{marks-done}
 use Rattle.peers.proofs.NameLaws.{placed-window}
 use Rattle.peers.proofs.PromiseLaws.{value≢memory}
+use Rattle.peers.proofs.ToldLaws.{cells-done, still-cells}
 use Rattle.peers.proofs.WorldLaws.{all-at}
 
 -- ---- a command of a widget
 
-tells-changed : (world : World) (place : ℕ) (change : Change) (told : EditTold) → place < length world.documents
-    → Foretells (document_at world.documents place) change told → is_ok change.reply ≡ true
-    → TellsCells (cells_at world place) (cells_at (changed world place change).world place) told
-tells-changed world place change told within foretold answered =
-    subst (λ (d : Document). TellsCells (cells_at world place) d.cells told)
-    (sym (set-at world.documents place change.document within)) (foretold answered)
+-- the marks that are told where a command of this shape changed the document at a place
+pub marks-placed : (old new : World) (name : List ℕ) (words : List (List ℕ)) (place : ℕ) (shape : Shape)
+    (widget : Widget) (told : Told) → reading words ≡ Ok shape
+    → widget_named name (document_at old.documents place) ≡ Some widget
+    → TellsAll (edits_text shape.command) (document_at old.documents place) (document_at new.documents place) widget
+    told
+    → MarksTellAt old new name words (Some place) told.marks
+marks-placed old new name words place shape widget told read found tells =
+    let before = document_at old.documents place in let after = document_at new.documents place in
+    let One : Type 0 = MarksTold name before after told.marks in
+    let Each : Type 0 = (window : List ℕ) → widget_named window before ≡ Some widget →
+    MarksTold window before after told.marks in
+    subst (λ found. MatchBool (edits_reading found) (told.marks ≡ []) One) (sym read)
+    (elim (edits_text shape.command) as (λ b. MatchBool b (told.marks ≡ []) Each → MatchBool b (told.marks ≡ []) One) [
+      | true ↦ λ none. none
+      | false ↦ λ some. some name found
+    ] tells.marks)
 
--- what a command of a widget that is found tells
-pub tells-found : (world : World) (name : List ℕ) (words : List (List ℕ)) (place : ℕ) (widget : Widget)
-    (told : EditTold) → home name world.documents ≡ Some place
-    → widget_named name (document_at world.documents place) ≡ Some widget
-    → Foretells (document_at world.documents place)
-    (command world.limits (all_windows world) (document_at world.documents place) widget words) told
-    → is_ok (on_widget world name words).reply ≡ true
-    → TellsAt world (on_widget world name words).world (home name world.documents) told
-tells-found world name words place widget told there found foretold =
-    let document = document_at world.documents place in
-    let within = (home-is name world.documents place there).0 in
-    let change = command world.limits (all_windows world) document widget words in
-    subst (λ (at : Option ℕ). is_ok (on_home world name words at).reply ≡ true →
-    TellsAt world (on_home world name words at).world at told) (sym there)
-    (subst (λ (seen : Option Widget). is_ok (on_found world place document words seen).reply ≡ true →
-    TellsCells (cells_at world place) (cells_at (on_found world place document words seen).world place) told) (sym found)
-    (tells-changed world place change told within foretold))
+-- a peer that is made changes no character of the document, and no mark
+pub peer-tells : (old new : World) (place position : ℕ) (arguments : List (List ℕ)) (widget : Widget)
+    (made : Result Answer Fault) → place < length old.documents → Makes old new made
+    (changed old place (peer_create old.limits (all_windows old) (document_at old.documents place) widget position
+    arguments))
+    → IfOk (answered made)
+    (TellsAll false (document_at old.documents place) (document_at new.documents place) widget)
+peer-tells old new place position arguments widget (Err fault) within makes = tt
+peer-tells old new place position arguments widget (Ok answer) within makes =
+    let document = document_at old.documents place in
+    let made = peer_create old.limits (all_windows old) document widget position arguments in
+    let is : document_at new.documents place ≡ made.document =
+    ap (λ (w : World). document_at w.documents place) (makes.world (value≢memory (Ok answer) answer refl))
+    ∙ set-at old.documents place made.document within in
+    subst (λ (d : Document). TellsAll false document d widget (record { answer = answer; edit = no_edit; marks = [] }))
+    (sym is) (record {
+      text = still-cells document made.document (cells-done old.limits (all_windows old) document widget PeerCreate []
+          position arguments (λ edit. edit) (λ edit. edit));
+      marks = λ window found. told-still window document made.document (marks-done old.limits (all_windows old) document
+          widget window found PeerCreate [] position arguments (λ edit. edit) (λ move. move));
+    })
 
 -- ---- any command
 
@@ -55,61 +74,108 @@ homeless world name formed none =
           absurd (true≢false (sym (placed-window document name document.widgets own.widgets there.1) ∙ none))
     ] refl
 
-text-none : (name : List ℕ) → is_same name (literal "text") ≡ true → is_window_name name ≡ false
+pub text-none : (name : List ℕ) → is_same name (literal "text") ≡ true → is_window_name name ≡ false
 unfolding chars
 text-none name is = ap is_window_name ((bytes_eq-Decides name (literal "text")).0 is)
 
-destroy-none : (name : List ℕ) → is_same name (literal "destroy") ≡ true → is_window_name name ≡ false
+pub destroy-none : (name : List ℕ) → is_same name (literal "destroy") ≡ true → is_window_name name ≡ false
 unfolding chars
 destroy-none name is = ap is_window_name ((bytes_eq-Decides name (literal "destroy")).0 is)
 
--- What holds of the world after a command that is answered, by where its first word's document stands: it holds where
--- there is none, and after a widget's command that is answered.
-pub holds-step : (P : World → Option ℕ → Type 0) (world new : World) (name : List ℕ) (others : List (List ℕ))
-    (answer : Answer) → IsWellFormed world → Makes world new (Ok answer) (step world (name ∷ others))
-    → (home name world.documents ≡ None → P new None)
-    → (is_ok (on_widget world name (name ∷ others)).reply ≡ true
-    → P (on_widget world name (name ∷ others)).world (home name world.documents))
-    → P new (home name world.documents)
-holds-step P world new name others answer formed makes none some =
-    let words = name ∷ others in
-    let left = destroy_shaped world words (reading words) in
-    let done = on_widget world name words in
-    let nothing : is_window_name name ≡ false → P new (home name world.documents) = λ other.
-    let absent = homeless world name formed other in
-    subst (P new) (sym absent) (none absent) in
-    elim (is_same name (literal "text")) as (λ b. is_same name (literal "text") ≡ b →
-    Makes world new (Ok answer) (if b then create_shaped world words (reading words)
-    else (if is_same name (literal "destroy") then left else done))
-    → P new (home name world.documents)) [
-      | true ↦ λ is _. nothing (text-none name is)
-      | false ↦ λ _. elim (is_same name (literal "destroy")) as (λ b. is_same name (literal "destroy") ≡ b →
-          Makes world new (Ok answer) (if b then left else done)
-          → P new (home name world.documents)) [
-            | true ↦ λ is _. nothing (destroy-none name is)
-            | false ↦ λ _ makes.
-                let known = value≢memory (Ok answer) answer refl in
-                subst (λ (w : World). P w (home name world.documents)) (sym (makes.world known))
-                (some (sym (ap is_ok (makes.reply known))))
-          ] refl
-    ] refl makes
+-- ---- by words as they are given
 
--- what a command tells of its words as they are given
-pub tells-call : {Z : Type 0} (world new : World) (words : List (String Z)) (first : String Z) (answer : Answer)
-    (told : EditTold) → IsWellFormed world → 0 < length words → first ≡ get_or words 0 first
-    → Makes world new (Ok answer) (step world (texts_of words))
-    → (home (chars (string_bytes first)) world.documents ≡ None → told ≡ no_edit)
-    → (is_ok (on_widget world (chars (string_bytes first)) (texts_of words)).reply ≡ true
-    → TellsAt world (on_widget world (chars (string_bytes first)) (texts_of words)).world
-    (home (chars (string_bytes first)) world.documents) told)
-    → TellsOf world new (texts_of words) told
-tells-call world new [] first answer told formed within is makes none some = absurd (omega (arith, within))
-tells-call {Z} world new (word ∷ words) first answer told formed within is makes none some =
-    let same : chars (string_bytes first) ≡ chars (string_bytes word) = ap
-    (λ (w : String Z). chars (string_bytes w)) is in
-    let all = texts_of (word ∷ words) in
-    holds-step (λ (w : World) (at : Option ℕ). TellsAt world w at told) world new (chars (string_bytes word))
-    (texts_of words) answer formed makes
-    (subst (λ name. home name world.documents ≡ None → told ≡ no_edit) same none)
-    (subst (λ name. is_ok (on_widget world name all).reply ≡ true
-    → TellsAt world (on_widget world name all).world (home name world.documents) told) same some)
+-- the first word and the others
+first-word : {Z : Type 0} (words : List (String Z)) (first : String Z) → 0 < length words
+    → first ≡ get_or words 0 first → (others : List (List ℕ)) × (texts_of words ≡ chars (string_bytes first) ∷ others)
+first-word [] first within is = absurd (omega (arith, within))
+first-word {Z} (word ∷ words) first within is =
+    (texts_of words, ap (λ (w : String Z). chars (string_bytes w) ∷ texts_of words) (sym is))
+
+-- a command whose first word names no widget tells nothing
+pub unnamed : {Z : Type 0} (old new : World) (words : List (String Z)) (first : String Z) (made : Result Answer Fault)
+    → IsWellFormed old → 0 < length words → first ≡ get_or words 0 first
+    → is_window_name (chars (string_bytes first)) ≡ false
+    → IfOk (answered made) (λ told. TellsOf old new (texts_of words) told.edit
+    × MarksTellOf old new (texts_of words) told.marks)
+unnamed old new words first (Err fault) formed within is none = tt
+unnamed old new words first (Ok answer) formed within is none =
+    let name = chars (string_bytes first) in let absent = homeless old name formed none in
+    let spelled = first-word words first within is in
+    subst (λ ws. TellsOf old new ws no_edit × MarksTellOf old new ws []) (sym spelled.1) (
+      subst (λ at. TellsAt old new at no_edit) (sym absent) refl,
+      subst (λ at. MarksTellAt old new name (name ∷ spelled.0) at []) (sym absent) refl,
+    )
+
+-- a command of a widget tells what it tells of the document that the widget shows
+pub named : {Z : Type 0} (old new : World) (words : List (String Z)) (first : String Z) → 0 < length words
+    → first ≡ get_or words 0 first → (result : Result Told Fault)
+    → let name = chars (string_bytes first) in let at = home name old.documents in
+    IfOk result (λ told. TellsAt old new at told.edit)
+    → IfOk result (λ told. TellsOf old new (texts_of words) told.edit)
+named old new words first within is result tells =
+    subst (λ ws. IfOk result (λ told. TellsOf old new ws told.edit)) (sym (first-word words first within is).1) tells
+
+pub named-marks : {Z : Type 0} (old new : World) (words : List (String Z)) (first : String Z) → 0 < length words
+    → first ≡ get_or words 0 first → (result : Result Told Fault)
+    → let name = chars (string_bytes first) in let at = home name old.documents in
+    IfOk result (λ told. MarksTellAt old new name (texts_of words) at told.marks)
+    → IfOk result (λ told. MarksTellOf old new (texts_of words) told.marks)
+named-marks old new words first within is result tells =
+    let name = chars (string_bytes first) in let spelled = first-word words first within is in
+    subst (λ ws. IfOk result (λ told. MarksTellOf old new ws told.marks)) (sym spelled.1)
+    (subst (λ ws. IfOk result (λ told. MarksTellAt old new name ws (home name old.documents) told.marks)) spelled.1
+    tells)
+
+-- what a command is, by its first word
+module _ {Z : Type 0} (world : World) (words : List (String Z)) (first : String Z) (within : 0 < length words)
+    (is : first ≡ get_or words 0 first) where
+  pub text-step : is_same (chars (string_bytes first)) (literal "text") ≡ true
+      → (step world (texts_of words) ≡ create_shaped world (texts_of words) (reading (texts_of words)))
+      × (are_frugal (texts_of words) ≡ false)
+  text-step text =
+      let spelled = first-word words first within is in let name = chars (string_bytes first) in
+      subst (λ ws. (step world ws ≡ create_shaped world ws (reading ws)) × (are_frugal ws ≡ false)) (sym spelled.1) (
+        ap (λ b. if b then create_shaped world (name ∷ spelled.0) (reading (name ∷ spelled.0))
+            else if is_same name (literal "destroy") then
+            destroy_shaped world (name ∷ spelled.0) (reading (name ∷ spelled.0))
+            else on_widget world name (name ∷ spelled.0)) text,
+        ap (λ b. if b then false else if is_same name (literal "destroy") then false
+            else is_frugal_reading (reading (name ∷ spelled.0))) text,
+      )
+
+  pub destroy-step : is_same (chars (string_bytes first)) (literal "text") ≡ false
+      → is_same (chars (string_bytes first)) (literal "destroy") ≡ true
+      → (step world (texts_of words) ≡ destroy_shaped world (texts_of words) (reading (texts_of words)))
+      × (are_frugal (texts_of words) ≡ false)
+  destroy-step text destroys =
+      let spelled = first-word words first within is in let name = chars (string_bytes first) in
+      subst (λ ws. (step world ws ≡ destroy_shaped world ws (reading ws)) × (are_frugal ws ≡ false)) (sym spelled.1) (
+        ap (λ b. if b then create_shaped world (name ∷ spelled.0) (reading (name ∷ spelled.0))
+            else if is_same name (literal "destroy") then
+            destroy_shaped world (name ∷ spelled.0) (reading (name ∷ spelled.0))
+            else on_widget world name (name ∷ spelled.0)) text
+            ∙ ap (λ b. if b then destroy_shaped world (name ∷ spelled.0) (reading (name ∷ spelled.0))
+            else on_widget world name (name ∷ spelled.0)) destroys,
+        ap (λ b. if b then false else if is_same name (literal "destroy") then false
+            else is_frugal_reading (reading (name ∷ spelled.0))) text
+            ∙ ap (λ b. if b then false else is_frugal_reading (reading (name ∷ spelled.0))) destroys,
+      )
+
+  pub widget-step : is_same (chars (string_bytes first)) (literal "text") ≡ false
+      → is_same (chars (string_bytes first)) (literal "destroy") ≡ false
+      → (step world (texts_of words) ≡ on_widget world (chars (string_bytes first)) (texts_of words))
+      × (are_frugal (texts_of words) ≡ is_frugal_reading (reading (texts_of words)))
+  widget-step text destroys =
+      let spelled = first-word words first within is in let name = chars (string_bytes first) in
+      subst (λ ws. (step world ws ≡ on_widget world name ws) × (are_frugal ws ≡ is_frugal_reading (reading ws)))
+      (sym spelled.1) (
+        ap (λ b. if b then create_shaped world (name ∷ spelled.0) (reading (name ∷ spelled.0))
+            else if is_same name (literal "destroy") then
+            destroy_shaped world (name ∷ spelled.0) (reading (name ∷ spelled.0))
+            else on_widget world name (name ∷ spelled.0)) text
+            ∙ ap (λ b. if b then destroy_shaped world (name ∷ spelled.0) (reading (name ∷ spelled.0))
+            else on_widget world name (name ∷ spelled.0)) destroys,
+        ap (λ b. if b then false else if is_same name (literal "destroy") then false
+            else is_frugal_reading (reading (name ∷ spelled.0))) text
+            ∙ ap (λ b. if b then false else is_frugal_reading (reading (name ∷ spelled.0))) destroys,
+      )

@@ -88,6 +88,20 @@ done PeerNames document call = unchanged document (peer_names document call.widg
 done Text document call = refused document (BadOption 1)
 done Destroy document call = refused document (BadOption 1)
 
+-- commands that edit the text or its tags, or move marks
+abbrev pub is_told : Command → Bool
+is_told Insert = true
+is_told Delete = true
+is_told Replace = true
+is_told EditUndo = true
+is_told EditRedo = true
+is_told TagAdd = true
+is_told TagRemove = true
+is_told TagDelete = true
+is_told MarkSet = true
+is_told MarkUnset = true
+is_told command = false
+
 -- frugal commands, which take no memory
 abbrev pub is_frugal : Command → Bool
 is_frugal EditModified = true

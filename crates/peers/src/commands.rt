@@ -1,8 +1,10 @@
-ghost use Rattle.std.specs.Prelude.{◌≡◌, ◌≢◌, ◌+◌, ◌<◌, ◌≤◌, ℕ, true, List, length, Ok, Err};
+ghost use Rattle.std.specs.Prelude.{◌≡◌, ◌≢◌, ◌+◌, ◌<◌, ◌≤◌, ℕ, true, false, List, length, Ok, Err};
 ghost use Rattle.tcl_words.specs.Unread.{texts_of};
 ghost use Rattle.documents.specs.Documents.{widget_at};
 ghost use Rattle.documents.specs.Promise.{Does};
-ghost use Rattle.peers.specs.Commands.{done, command, is_frugal};
+ghost use Rattle.peers.specs.Commands.{done, command, is_frugal, is_told};
+ghost use Rattle.peers.specs.MarksTold.{edits_text};
+ghost use Rattle.peers.specs.Told.{answer_of, AreTold};
 ghost use Rattle.command_table.specs.Reading.{reading};
 ghost use Rattle.command_table.specs.declared.commands.Command.TheVariants.{PeerCreate};
 ghost use Rattle.command_effects.specs.declared.answers.Fault.TheVariants.{Memory};
@@ -18,39 +20,39 @@ use crate::tags::{
     tag_add, tag_lower, tag_names, tag_nextrange, tag_prevrange, tag_raise, tag_ranges, tag_remove,
 };
 use crate::texts::{get, insert};
+use crate::told::{Told, answered, edited, moved};
 use crate::widgets::peer_names;
 use command_effects::{Answer, Fault};
 use command_table::{Command, Shape};
-use documents::Document;
-use text_model::{Limits, TextStore};
+use documents::{Caller, Document};
+use text_model::TextStore;
 
 /// Who calls a command, and with which words: its switches, and its arguments and options, which stand from a position
 /// on.
 #[derive(Clone, Copy)]
 struct Call<'a> {
-    limits: &'a Limits,
-    seat: usize,
+    caller: Caller<'a>,
     switches: &'a [String],
     position: usize,
     arguments: &'a [String],
 }
 
-/// A command of a widget but `peer create`, as it is called.
-fn carry_out<S: TextStore>(
+/// A command of a widget, as it is called, that neither edits the text or its tags nor moves marks, but `peer create`.
+fn answer<S: TextStore>(
     document: &mut Document<S>,
     command: Command,
     call: Call<'_>,
 ) -> Result<Answer, Fault>
-    requires shown { call.seat < length document.old.widgets }
-    requires formed { IsWellFormedDocument call.limits.now document.old }
+    requires shown { call.caller.seat < length document.old.widgets }
     requires near { call.position + 2 ≤ usize.MAX }
     requires all { call.position + length call.arguments.now ≤ usize.MAX }
     requires own { command ≢ PeerCreate }
-    ensures does { (windows : List (List ℕ)) → Does call.entry.limits.now document.old document.new result
+    requires quiet { is_told command ≡ false }
+    ensures does { (windows : List (List ℕ)) → Does call.entry.caller.limits.now document.old document.new result
         (done command document.old (record {
-          limits = call.entry.limits.now;
+          limits = call.entry.caller.limits.now;
           windows = windows;
-          widget = widget_at document.old call.entry.seat;
+          widget = widget_at document.old call.entry.caller.seat;
           switches = texts_of call.entry.switches.now;
           position = call.entry.position;
           arguments = texts_of call.entry.arguments.now;
@@ -58,16 +60,13 @@ fn carry_out<S: TextStore>(
     ensures frugal { is_frugal command ≡ true → result ≢ Err Memory }
 {
     let Call {
-        limits,
-        seat,
+        caller,
         switches,
         position,
         arguments,
     } = call;
+    let seat = caller.seat;
     match command {
-        Command::Insert => insert(document, limits, seat, position, arguments),
-        Command::Delete => delete(document, seat, position, arguments),
-        Command::Replace => replace(document, limits, seat, position, arguments),
         Command::Get => get(document, seat, position, arguments),
         Command::Index => index(document, seat, position, arguments),
         Command::Compare => compare(document, seat, position, arguments),
@@ -75,11 +74,6 @@ fn carry_out<S: TextStore>(
         Command::MarkNames => mark_names(document),
         Command::MarkNext => mark_next(document, seat, position, arguments),
         Command::MarkPrevious => mark_previous(document, seat, position, arguments),
-        Command::MarkSet => mark_set(document, limits, seat, position, arguments),
-        Command::MarkUnset => document.unset_marks(arguments),
-        Command::TagAdd => tag_add(document, limits, seat, position, arguments),
-        Command::TagRemove => tag_remove(document, seat, position, arguments),
-        Command::TagDelete => document.delete_tags(arguments),
         Command::TagNames => tag_names(document, seat, position, arguments),
         Command::TagRanges => tag_ranges(document, seat, arguments),
         Command::TagNextRange => tag_nextrange(document, seat, position, arguments),
@@ -88,41 +82,90 @@ fn carry_out<S: TextStore>(
         Command::TagLower => tag_lower(document, position, arguments),
         Command::Configure => configure(document, seat, position, arguments),
         Command::Cget => cget(document, seat, arguments),
-        Command::EditUndo => document.edit_undo(limits, seat),
-        Command::EditRedo => document.edit_redo(limits, seat),
         Command::EditModified => edit_modified(document, position, arguments),
         Command::EditReset => Ok(document.edit_reset()),
         Command::EditSeparator => Ok(document.edit_separator()),
         Command::Search => search(document, seat, switches, position, arguments),
         Command::Count => count(document, seat, switches, position, arguments),
         Command::Dump => dump(document, seat, switches, position, arguments),
-        Command::PeerCreate => unreachable!(),
         Command::PeerNames => peer_names(document, seat),
         Command::Text | Command::Destroy => Err(Fault::BadOption(1)),
+        Command::Insert | Command::Delete | Command::Replace => unreachable!(),
+        Command::EditUndo | Command::EditRedo => unreachable!(),
+        Command::TagAdd | Command::TagRemove | Command::TagDelete => unreachable!(),
+        Command::MarkSet | Command::MarkUnset | Command::PeerCreate => unreachable!(),
     }
 }
 
-/// A command of a widget but `peer create`, of all its words, which have this shape.
+/// A command of a widget but `peer create`, as it is called, and what it tells.
+fn carry_out<S: TextStore>(
+    document: &mut Document<S>,
+    command: Command,
+    call: Call<'_>,
+) -> Result<Told, Fault>
+    requires shown { call.caller.seat < length document.old.widgets }
+    requires formed { IsWellFormedDocument call.caller.limits.now document.old }
+    requires near { call.position + 2 ≤ usize.MAX }
+    requires all { call.position + length call.arguments.now ≤ usize.MAX }
+    requires own { command ≢ PeerCreate }
+    ensures does { (windows : List (List ℕ)) → Does call.entry.caller.limits.now document.old document.new
+        (answer_of result) (done command document.old (record {
+          limits = call.entry.caller.limits.now;
+          windows = windows;
+          widget = widget_at document.old call.entry.caller.seat;
+          switches = texts_of call.entry.switches.now;
+          position = call.entry.position;
+          arguments = texts_of call.entry.arguments.now;
+        })) }
+    ensures tells { AreTold call.entry.caller.follows (edits_text command) document.old document.new
+        (widget_at document.old call.entry.caller.seat) result }
+    ensures frugal { is_frugal command ≡ true → result ≢ Err Memory }
+{
+    let Call {
+        caller,
+        position,
+        arguments,
+        ..
+    } = call;
+    let by = &caller;
+    let alloc = document.allocator();
+    match command {
+        Command::Insert => edited(alloc, insert(document, by, position, arguments)),
+        Command::Delete => edited(alloc, delete(document, by, position, arguments)),
+        Command::Replace => edited(alloc, replace(document, by, position, arguments)),
+        Command::EditUndo => edited(alloc, document.edit_undo(by)),
+        Command::EditRedo => edited(alloc, document.edit_redo(by)),
+        Command::TagAdd => edited(alloc, tag_add(document, by, position, arguments)),
+        Command::TagRemove => edited(alloc, tag_remove(document, by, position, arguments)),
+        Command::TagDelete => edited(alloc, document.delete_tags(by, arguments)),
+        Command::MarkSet => moved(alloc, mark_set(document, by, position, arguments)),
+        Command::MarkUnset => moved(alloc, document.unset_marks(by, arguments)),
+        _ => answered(alloc, answer(document, command, call)),
+    }
+}
+
+/// A command of a widget but `peer create`, of all its words, which have this shape, and what it tells.
 pub fn command<S: TextStore>(
     document: &mut Document<S>,
-    limits: &Limits,
-    seat: usize,
+    caller: Caller<'_>,
     shape: Shape,
     words: &[String],
-) -> Result<Answer, Fault>
-    requires shown { seat < length document.old.widgets }
-    requires formed { IsWellFormedDocument limits.now document.old }
+) -> Result<Told, Fault>
+    requires shown { caller.seat < length document.old.widgets }
+    requires formed { IsWellFormedDocument caller.limits.now document.old }
     requires shape { reading (texts_of words.now) ≡ Ok shape }
     requires within { shape.arguments + shape.count ≤ length words.now }
     requires ordered { shape.switches ≤ shape.arguments }
     requires own { shape.command ≢ PeerCreate }
-    ensures does { (windows : List (List ℕ)) → Does limits.now document.old document.new result
-        (command limits.now windows document.old (widget_at document.old seat) (texts_of words.now)) }
+    ensures does { (windows : List (List ℕ)) → Does caller.entry.limits.now document.old document.new
+        (answer_of result) (command caller.entry.limits.now windows document.old
+        (widget_at document.old caller.entry.seat) (texts_of words.now)) }
+    ensures tells { AreTold caller.entry.follows (edits_text shape.command) document.old document.new
+        (widget_at document.old caller.entry.seat) result }
     ensures frugal { is_frugal shape.command ≡ true → result ≢ Err Memory }
 {
     let call = Call {
-        limits,
-        seat,
+        caller,
         switches: &words[shape.switches..shape.arguments],
         position: shape.arguments,
         arguments: &words[shape.arguments..],

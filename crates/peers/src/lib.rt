@@ -8,7 +8,6 @@ mod history;
 mod indices;
 pub mod laws;
 mod marks;
-mod marks_told;
 mod options;
 mod queries;
 mod ranges;
@@ -22,4 +21,5 @@ mod world;
 
 pub use command_effects::{Answer, Fault};
 pub use documents::{ChangeList, EditTold, Key, MovedMarks, Spot, TagChange, TagList, TextChange};
-pub use world::{Told, World};
+pub use told::Told;
+pub use world::World;

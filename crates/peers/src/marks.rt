@@ -1,12 +1,14 @@
-ghost use Rattle.std.specs.Prelude.{◌≡◌, ◌+◌, ◌≤◌, length, chars, option_map, IfOk, ◌<◌};
+ghost use Rattle.std.specs.Prelude.{◌≡◌, ◌+◌, ◌≤◌, length, chars, option_map, ◌<◌};
 ghost use Rattle.text_model.specs.LimitTable.{LimitTable};
 ghost use Rattle.tcl_words.specs.Unread.{texts_of};
 ghost use Rattle.documents.specs.Documents.{widget_at};
 ghost use Rattle.documents.specs.Views.{shown};
 ghost use Rattle.command_effects.specs.Faults.{with_value};
-ghost use Rattle.documents.specs.Promise.{Gives, Does, change_with};
+ghost use Rattle.documents.specs.Promise.{Gives, Does};
+ghost use Rattle.documents.specs.Told.{reply_of};
 ghost use Rattle.documents.specs.Marks.{place_named};
-ghost use Rattle.peers.specs.Marks.{set_at, set_words, mark_set, gravity_asked, gravity_given, gravity_words};
+ghost use Rattle.documents.specs.MarksTold.{AreMarksTold};
+ghost use Rattle.peers.specs.Marks.{set_at, mark_set, gravity_asked, gravity_given, gravity_words};
 ghost use Rattle.peers.specs.Marks.{mark_gravity, mark_names_of, mark_answer, origin_at, next_from, next_at, mark_next};
 ghost use Rattle.peers.specs.Marks.{previous_from, previous_at, mark_previous};
 ghost use Rattle.mark_table.specs.Order.{rank_of};
@@ -14,7 +16,7 @@ ghost use Rattle.documents.specs.Names.{mark_place};
 ghost use Rattle.peers.specs.Marks.{origin_marked};
 
 use command_effects::{Answer, Fault, one, one_or_two, read_gravity, two};
-use documents::Document;
+use documents::{Caller, Document, MovedMarks};
 use mark_table::{Origin, WidgetMark};
 use text_model::{Gravity, Limits, Place, TextStore};
 
@@ -44,59 +46,26 @@ fn set_at<S: TextStore>(
     }
 }
 
-fn set_place<S: TextStore>(
-    document: &mut Document<S>,
-    limits: &Limits,
-    seat: usize,
-    name: &str,
-    place: Result<usize, Fault>,
-) -> Result<Answer, Fault>
-    requires shown { seat < length document.old.widgets }
-    requires within { IfOk place (λ place. place ≤ length (shown document.old (widget_at document.old seat))) }
-    ensures { Does limits.now document.old document.new result
-        (change_with document.old place (set_at limits.now document.old (widget_at document.old seat)
-        (chars name.now))) }
-{
-    match place {
-        Err(fault) => Err(fault),
-        Ok(place) => set_at(document, limits, seat, name, place),
-    }
-}
-
-fn set_words<S: TextStore>(
-    document: &mut Document<S>,
-    limits: &Limits,
-    seat: usize,
-    position: usize,
-    name: &str,
-    word: &str,
-) -> Result<Answer, Fault>
-    requires shown { seat < length document.old.widgets }
-    requires near { position + 1 ≤ usize.MAX }
-    ensures { Does limits.now document.old document.new result
-        (set_words limits.now document.old (widget_at document.old seat) position (chars name.now, chars word.now)) }
-{
-    let place = document.place_at(seat, position + 1, word);
-    set_place(document, limits, seat, name, place)
-}
-
-/// `W mark set M I` (text(n), "mark set"). The arguments stand from a position on.
+/// `W mark set M I` (text(n), "mark set"). The arguments stand from a position on. Which mark that moves.
 pub fn mark_set<S: TextStore>(
     document: &mut Document<S>,
-    limits: &Limits,
-    seat: usize,
+    caller: &Caller<'_>,
     position: usize,
     arguments: &[String],
-) -> Result<Answer, Fault>
-    requires shown { seat < length document.old.widgets }
+) -> Result<MovedMarks, Fault>
+    requires shown { caller.now.seat < length document.old.widgets }
     requires near { position + 1 ≤ usize.MAX }
-    ensures { Does limits.now document.old document.new result
-        (mark_set limits.now document.old (widget_at document.old seat) position (texts_of arguments.now)) }
+    ensures does { Does caller.now.limits.now document.old document.new (reply_of result)
+        (mark_set caller.now.limits.now document.old (widget_at document.old caller.now.seat) position
+        (texts_of arguments.now)) }
+    ensures told { AreMarksTold caller.now.follows document.old document.new
+        (widget_at document.old caller.now.seat) result }
 {
-    match two(arguments) {
-        Err(fault) => Err(fault),
-        Ok((name, word)) => set_words(document, limits, seat, position, name, word),
-    }
+    let (name, word) = two(arguments)?;
+    let place = document.place_at(caller.seat, position + 1, word)?;
+    let told = document.told_mark_set(caller, name, place)?;
+    set_at(document, caller.limits, caller.seat, name, place)?;
+    Ok(told)
 }
 
 /// The gravity of the mark that stands at a place, if there is one.

@@ -5,88 +5,51 @@ ghost use Rattle.documents.specs.Documents.{widget_at};
 ghost use Rattle.documents.specs.Views.{shown};
 ghost use Rattle.command_effects.specs.Faults.{with_value};
 ghost use Rattle.documents.specs.Promise.{Gives, Does};
-ghost use Rattle.peers.specs.Tags.{add_words, tag_add, remove_words, tag_remove, names_on, names_at_word, tag_names};
+ghost use Rattle.documents.specs.Told.{reply_of, IsTold};
+ghost use Rattle.peers.specs.Tags.{tag_add, tag_remove, names_on, names_at_word, tag_names};
 ghost use Rattle.peers.specs.Tags.{tag_ranges_of, ranges_of, place_or, next_between, next_words, tag_nextrange};
 ghost use Rattle.peers.specs.Tags.{previous_between, previous_words, tag_prevrange, tag_raise, tag_lower};
 
 use crate::ranges::places_at;
 use command_effects::{Answer, Fault, first, none_or_one, one, one_or_two, two_or_three};
-use documents::Document;
-use text_model::{Limits, TextStore};
+use documents::{Caller, Document, EditTold};
+use text_model::TextStore;
 
-fn add_words<S: TextStore>(
-    document: &mut Document<S>,
-    limits: &Limits,
-    seat: usize,
-    position: usize,
-    name: &str,
-    words: &[String],
-) -> Result<Answer, Fault>
-    requires shown { seat < length document.old.widgets }
-    requires near { position + 1 + length words.now ≤ usize.MAX }
-    ensures { Does limits.now document.old document.new result
-        (add_words limits.now document.old (widget_at document.old seat) position
-        (chars name.now, texts_of words.now)) }
-{
-    match places_at(document, seat, position + 1, words) {
-        Err(fault) => Err(fault),
-        Ok(places) => document.add_spans(limits, seat, name, &places),
-    }
-}
-
-/// `W tag add T I ?I ..?` (text(n), "tag add"). The arguments stand from a position on.
+/// `W tag add T I ?I ..?` (text(n), "tag add"). The arguments stand from a position on. What that changes.
 pub fn tag_add<S: TextStore>(
     document: &mut Document<S>,
-    limits: &Limits,
-    seat: usize,
+    caller: &Caller<'_>,
     position: usize,
     arguments: &[String],
-) -> Result<Answer, Fault>
-    requires shown { seat < length document.old.widgets }
+) -> Result<EditTold, Fault>
+    requires shown { caller.now.seat < length document.old.widgets }
     requires near { position + length arguments.now ≤ usize.MAX }
-    ensures { Does limits.now document.old document.new result
-        (tag_add limits.now document.old (widget_at document.old seat) position (texts_of arguments.now)) }
+    ensures does { Does caller.now.limits.now document.old document.new (reply_of result)
+        (tag_add caller.now.limits.now document.old (widget_at document.old caller.now.seat) position
+        (texts_of arguments.now)) }
+    ensures told { IsTold caller.now.follows document.old document.new result }
 {
-    match first(arguments) {
-        Err(fault) => Err(fault),
-        Ok((name, words)) => add_words(document, limits, seat, position, name, words),
-    }
+    let (name, words) = first(arguments)?;
+    let places = places_at(document, caller.seat, position + 1, words)?;
+    document.add_spans(caller, name, &places)
 }
 
-fn remove_words<S: TextStore>(
-    document: &mut Document<S>,
-    seat: usize,
-    position: usize,
-    name: &str,
-    words: &[String],
-) -> Result<Answer, Fault>
-    requires shown { seat < length document.old.widgets }
-    requires near { position + 1 + length words.now ≤ usize.MAX }
-    ensures { (limits : LimitTable) → Does limits document.old document.new result
-        (remove_words document.old (widget_at document.old seat) position (chars name.now, texts_of words.now)) }
-{
-    match places_at(document, seat, position + 1, words) {
-        Err(fault) => Err(fault),
-        Ok(places) => document.remove_spans(seat, name, &places),
-    }
-}
-
-/// `W tag remove T I ?I ..?` (text(n), "tag remove"). The arguments stand from a position on.
+/// `W tag remove T I ?I ..?` (text(n), "tag remove"). The arguments stand from a position on. What that changes.
 pub fn tag_remove<S: TextStore>(
     document: &mut Document<S>,
-    seat: usize,
+    caller: &Caller<'_>,
     position: usize,
     arguments: &[String],
-) -> Result<Answer, Fault>
-    requires shown { seat < length document.old.widgets }
+) -> Result<EditTold, Fault>
+    requires shown { caller.now.seat < length document.old.widgets }
     requires near { position + length arguments.now ≤ usize.MAX }
-    ensures { (limits : LimitTable) → Does limits document.old document.new result
-        (tag_remove document.old (widget_at document.old seat) position (texts_of arguments.now)) }
+    ensures does { (limits : LimitTable) → Does limits document.old document.new (reply_of result)
+        (tag_remove document.old (widget_at document.old caller.now.seat) position (texts_of arguments.now)) }
+    ensures told { IsTold caller.now.follows document.old document.new result }
 {
-    match first(arguments) {
-        Err(fault) => Err(fault),
-        Ok((name, words)) => remove_words(document, seat, position, name, words),
-    }
+    let (name, words) = first(arguments)?;
+    let places = places_at(document, caller.seat, position + 1, words)?;
+    document.remove_spans(caller, name, &places)
 }
 
 /// The tags of the character at a place.

@@ -1,105 +1,62 @@
-ghost use Rattle.std.specs.Prelude.{◌≡◌, ◌+◌, ◌≤◌, length, chars, filter, Ok, IfOk, ◌<◌};
+ghost use Rattle.std.specs.Prelude.{◌≡◌, ◌+◌, ◌≤◌, length, filter, Ok, IfOk, ◌<◌};
 ghost use Rattle.tcl_words.specs.ListText.{list_text};
 ghost use Rattle.std.specs.List.{All};
 ghost use Rattle.tcl_words.specs.Unread.{texts_of};
 ghost use Rattle.documents.specs.Documents.{widget_at};
 ghost use Rattle.documents.specs.Views.{shown};
-ghost use Rattle.documents.specs.Promise.{Gives, Does, change_with, unless_idle};
-ghost use Rattle.command_effects.specs.Lists.{pairs_at};
+ghost use Rattle.documents.specs.Promise.{Gives, Does, unless_idle};
 ghost use Rattle.documents.specs.Texts.{insert_at, insertion_offset};
-ghost use Rattle.peers.specs.Texts.{insert_pairs, insert_words, insert, texts_of_places, got, get};
+ghost use Rattle.documents.specs.Told.{reply_of, IsTold};
+ghost use Rattle.peers.specs.Texts.{insert, texts_of_places, got, get};
 ghost use Rattle.command_effects.specs.Listing.{is_filled};
 
 use crate::ranges::places_at;
 use command_effects::{Answer, Fault, Pair, first, pairs_at, push_filled};
-use documents::Document;
+use documents::{Caller, Document, EditTold};
 use std::alloc::AllocError;
-use text_model::{Limits, Text, TextStore};
+use text_model::{Text, TextStore};
 
-/// Puts texts in at a place, or just before the last newline where that is the end, unless the widget is disabled.
+/// Puts texts in at a place, or just before the last newline where that is the end, unless the widget is disabled. What
+/// that changes.
 fn insert_pairs<S: TextStore>(
     document: &mut Document<S>,
-    limits: &Limits,
-    seat: usize,
+    caller: &Caller<'_>,
     place: usize,
     pairs: Vec<Pair>,
-) -> Result<Answer, Fault>
-    requires shown { seat < length document.old.widgets }
-    requires within { place ≤ length (shown document.old (widget_at document.old seat)) }
-    ensures { Does limits.now document.old document.new result
-        (unless_idle (widget_at document.old seat) document.old
-        (insert_at limits.now document.old (widget_at document.old seat)
-        (insertion_offset document.old (widget_at document.old seat) place) pairs.items)) }
+) -> Result<EditTold, Fault>
+    requires shown { caller.now.seat < length document.old.widgets }
+    requires within { place ≤ length (shown document.old (widget_at document.old caller.now.seat)) }
+    ensures does { let widget = widget_at document.old caller.now.seat in
+        Does caller.now.limits.now document.old document.new (reply_of result)
+        (unless_idle widget document.old (insert_at caller.now.limits.now document.old widget
+        (insertion_offset document.old widget place) pairs.items)) }
+    ensures told { IsTold caller.now.follows document.old document.new result }
 {
-    if document.is_idle(seat) {
-        return Ok(Answer::Empty);
+    if document.is_idle(caller.seat) {
+        return Ok(EditTold::nothing(document.allocator()));
     }
-    document.insert_at(limits, seat, document.insertion_offset(seat, place), pairs)
+    document.insert_at(caller, document.insertion_offset(caller.seat, place), pairs)
 }
 
-/// Puts texts in at a place, or just before the last newline where that is the end.
-fn insert_place<S: TextStore>(
-    document: &mut Document<S>,
-    limits: &Limits,
-    seat: usize,
-    place: Result<usize, Fault>,
-    position: usize,
-    words: &[String],
-) -> Result<Answer, Fault>
-    requires shown { seat < length document.old.widgets }
-    requires within { IfOk place (λ place. place ≤ length (shown document.old (widget_at document.old seat))) }
-    requires near { position + length words.now ≤ usize.MAX }
-    ensures { Does limits.now document.old document.new result
-        (change_with document.old place (insert_pairs limits.now document.old (widget_at document.old seat)
-        (pairs_at position (texts_of words.now)))) }
-{
-    let place = match place {
-        Err(fault) => return Err(fault),
-        Ok(place) => place,
-    };
-    match pairs_at(document.allocator(), position, words) {
-        Err(fault) => Err(fault),
-        Ok(pairs) => insert_pairs(document, limits, seat, place, pairs),
-    }
-}
-
-fn insert_words<S: TextStore>(
-    document: &mut Document<S>,
-    limits: &Limits,
-    seat: usize,
-    position: usize,
-    index: &str,
-    words: &[String],
-) -> Result<Answer, Fault>
-    requires shown { seat < length document.old.widgets }
-    requires near { position + 1 + length words.now ≤ usize.MAX }
-    ensures { Does limits.now document.old document.new result
-        (insert_words limits.now document.old (widget_at document.old seat) position (
-          chars index.now,
-          texts_of words.now,
-        )) }
-{
-    let place = document.place_at(seat, position, index);
-    insert_place(document, limits, seat, place, position + 1, words)
-}
-
-/// `W insert I chars ?tagList chars ..?` (text(n), "insert"). The arguments stand from a position on.
+/// `W insert I chars ?tagList chars ..?` (text(n), "insert"). The arguments stand from a position on. What that
+/// changes.
 pub fn insert<S: TextStore>(
     document: &mut Document<S>,
-    limits: &Limits,
-    seat: usize,
+    caller: &Caller<'_>,
     position: usize,
     arguments: &[String],
-) -> Result<Answer, Fault>
-    requires shown { seat < length document.old.widgets }
+) -> Result<EditTold, Fault>
+    requires shown { caller.now.seat < length document.old.widgets }
     requires near { position + length arguments.now ≤ usize.MAX }
-    ensures { Does limits.now document.old document.new result
-        (insert limits.now document.old (widget_at document.old seat) position (texts_of arguments.now)) }
+    ensures does { Does caller.now.limits.now document.old document.new (reply_of result)
+        (insert caller.now.limits.now document.old (widget_at document.old caller.now.seat) position
+        (texts_of arguments.now)) }
+    ensures told { IsTold caller.now.follows document.old document.new result }
 {
-    match first(arguments) {
-        Err(fault) => Err(fault),
-        Ok((index, words)) => insert_words(document, limits, seat, position, index, words),
-    }
+    let (index, words) = first(arguments)?;
+    let place = document.place_at(caller.seat, position, index)?;
+    let pairs = pairs_at(document.allocator(), position + 1, words)?;
+    insert_pairs(document, caller, place, pairs)
 }
 
 /// The texts of ranges as a list, without those that are empty.

@@ -1,5 +1,5 @@
 ghost use Rattle.std.specs.Prelude.{◌≡◌, ◌≢◌, ◌<◌, Some, Ok, [], false, true, nat_le, length, chars, ◌+◌, ◌≤◌};
-ghost use Rattle.std.specs.Prelude.{option_map, None, IfOk, is_ok};
+ghost use Rattle.std.specs.Prelude.{option_map, IfOk};
 ghost use Rattle.text_model.specs.Lines.{lines};
 ghost use Rattle.tcl_words.specs.Unread.{texts_of};
 ghost use Rattle.command_table.specs.Reading.{reading};
@@ -15,31 +15,21 @@ ghost use Rattle.peers.specs.Widgets.{peer_create, peer_with};
 ghost use Rattle.peers.specs.WellFormed.{IsWellFormed};
 ghost use Rattle.peers.specs.World.{all_windows, document_at, home};
 ghost use Rattle.peers.specs.MarksTold.{MarksTellAt, MarksTellOf};
-ghost use Rattle.peers.specs.Told.{answer_of, no_edit, TellsAt, TellsOf};
+ghost use Rattle.peers.specs.Told.{answer_of, TellsAt, TellsOf};
 ghost use Rattle.documents.specs.Options.{AreLines};
 
 use crate::commands::command;
 use crate::document_list::Documents;
-use crate::marks_told::told_marks_of;
 use crate::options::settings_given;
-use crate::told::told_of;
+use crate::told::{Told, answered};
 use crate::widgets::peer_settings;
 use crate::words::is_window_name;
 use command_effects::{Answer, Fault, Settings, first, is_word};
 use command_table::{Command, Shape, shape};
-use documents::{Document, EditTold, MovedMarks};
-use std::alloc::{AllocError, Global};
+use documents::{Caller, Document};
+use std::alloc::Global;
 use std::marker::Model;
 use text_model::{Limits, TextStore};
-
-/// What a command answered, what it changed of the text that its widget shows and of the tags there, and which marks it
-/// moved.
-#[derive(Drop)]
-pub struct Told {
-    pub answer: Answer,
-    pub edit: EditTold,
-    pub marks: MovedMarks,
-}
 
 /// All that a session of commands can see later: the limits, and the documents with their widgets.
 #[derive(Drop)]
@@ -231,45 +221,55 @@ impl<S: TextStore> World<S> {
     }
 
     /// A command of the widget of a name, which shows the document at a place, of all its words, which have this shape.
+    /// Who follows is told what it changed.
     fn on_document(
         &mut self,
         place: usize,
         name: &str,
         shape: Shape,
         words: &[String],
-    ) -> Result<Answer, Fault>
+        follows: bool,
+    ) -> Result<Told, Fault>
         requires home { home (chars name.now) self.old.documents ≡ Some place }
         requires shape { reading (texts_of words.now) ≡ Ok shape }
         requires within { shape.arguments + shape.count ≤ length words.now }
         requires ordered { shape.switches ≤ shape.arguments }
-        ensures makes { Makes self.old self.new result
+        ensures makes { Makes self.old self.new (answer_of result)
             (on_home self.old (chars name.now) (texts_of words.now) (Some place)) }
+        ensures tells { follows ≡ true → IfOk result (λ told. TellsAt self.old self.new (Some place) told.edit) }
+        ensures marks { follows ≡ true → IfOk result (λ told.
+            MarksTellAt self.old self.new (chars name.now) (texts_of words.now) (Some place) told.marks) }
         ensures frugal { is_frugal shape.command ≡ true → result ≢ Err Fault.Memory }
     {
         let Some(seat) = self.documents.list[place].find_widget(name) else {
             unreachable!()
         };
         match shape.command {
-            Command::PeerCreate => self.create_peer(
-                place,
-                seat,
-                shape.arguments,
-                &words[shape.arguments..],
-            ),
-            _ => command(
-                &mut self.documents.list[place],
-                &self.limits,
-                seat,
-                shape,
-                words,
-            ),
+            Command::PeerCreate => {
+                let arguments = &words[shape.arguments..];
+                let made = self.create_peer(place, seat, shape.arguments, arguments);
+                answered(self.documents.alloc, made)
+            }
+            _ => {
+                let caller = Caller {
+                    limits: &self.limits,
+                    seat,
+                    follows,
+                };
+                command(&mut self.documents.list[place], caller, shape, words)
+            }
         }
     }
 
-    /// A command of the widget of a name, of all its words.
-    fn on_widget(&mut self, name: &str, words: &[String]) -> Result<Answer, Fault>
+    /// A command of the widget of a name, of all its words. Who follows is told what it changed.
+    fn on_widget(&mut self, name: &str, words: &[String], follows: bool) -> Result<Told, Fault>
         requires { 0 < length words.now }
-        ensures makes { Makes self.old self.new result (on_widget self.old (chars name.now) (texts_of words.now)) }
+        ensures makes { Makes self.old self.new (answer_of result)
+            (on_widget self.old (chars name.now) (texts_of words.now)) }
+        ensures tells { follows ≡ true → IfOk result (λ told.
+            TellsAt self.old self.new (home (chars name.now) self.old.documents) told.edit) }
+        ensures marks { follows ≡ true → IfOk result (λ told. MarksTellAt self.old self.new (chars name.now)
+            (texts_of words.now) (home (chars name.now) self.old.documents) told.marks) }
         ensures frugal { is_frugal_reading (reading (texts_of words.now)) ≡ true → result ≢ Err Fault.Memory }
     {
         let Some(place) = self.documents.windows.home(name) else {
@@ -277,7 +277,7 @@ impl<S: TextStore> World<S> {
         };
         match shape(words) {
             Err(fault) => Err(Fault::of_shape(fault)),
-            Ok(shape) => self.on_document(place, name, shape, words),
+            Ok(shape) => self.on_document(place, name, shape, words, follows),
         }
     }
 
@@ -306,49 +306,25 @@ impl<S: TextStore> World<S> {
         Some(self.document(name)?.can_redo())
     }
 
-    /// What a command of the widget of a name tells, of all its words: each change that it makes of the text that the
-    /// widget shows and of the tags there, unless it is refused. Nothing, where no widget has the name.
-    fn told_of(&self, name: &str, words: &[String]) -> Result<EditTold, AllocError>
+    /// Carries out a command of one word or more. Who follows is told what it changed.
+    fn carry_out(&mut self, words: &[String], follows: bool) -> Result<Told, Fault>
         requires { 0 < length words.now }
-        ensures none { home (chars name.now) self.now.documents ≡ None → IfOk result (λ told. told ≡ no_edit) }
-        ensures some { IfOk result (λ told. let outcome = on_widget self.now (chars name.now) (texts_of words.now) in
-            is_ok outcome.reply ≡ true →
-            TellsAt self.now outcome.world (home (chars name.now) self.now.documents) told) }
+        ensures makes { Makes self.old self.new (answer_of result) (step self.old (texts_of words.now)) }
+        ensures tells { follows ≡ true →
+            IfOk result (λ told. TellsOf self.old self.new (texts_of words.now) told.edit) }
+        ensures marks { follows ≡ true →
+            IfOk result (λ told. MarksTellOf self.old self.new (texts_of words.now) told.marks) }
+        ensures frugal { are_frugal (texts_of words.now) ≡ true → result ≢ Err Fault.Memory }
     {
-        let nothing = EditTold::nothing(self.documents.alloc);
-        let Some(place) = self.documents.windows.home(name) else {
-            return Ok(nothing);
-        };
-        let document = &self.documents.list[place];
-        let Some(seat) = document.find_widget(name) else {
-            unreachable!()
-        };
-        match shape(words) {
-            Err(_) => Ok(nothing),
-            Ok(shape) => told_of(document, &self.limits, seat, shape, words),
-        }
-    }
-
-    /// The marks that a command of the widget of a name moves, of all its words, as the widget knows marks, unless it
-    /// is refused. None are told of a command that edits the text, and where no widget has the name.
-    fn told_marks(&self, name: &str, words: &[String]) -> Result<MovedMarks, AllocError>
-        requires { 0 < length words.now }
-        ensures none { home (chars name.now) self.now.documents ≡ None → IfOk result (λ told. told ≡ []) }
-        ensures some { IfOk result (λ told. let outcome = on_widget self.now (chars name.now) (texts_of words.now) in
-            is_ok outcome.reply ≡ true → MarksTellAt self.now outcome.world (chars name.now) (texts_of words.now)
-            (home (chars name.now) self.now.documents) told) }
-    {
-        let nothing = MovedMarks::new(self.documents.alloc);
-        let Some(place) = self.documents.windows.home(name) else {
-            return Ok(nothing);
-        };
-        let document = &self.documents.list[place];
-        let Some(seat) = document.find_widget(name) else {
-            unreachable!()
-        };
-        match shape(words) {
-            Err(_) => Ok(nothing),
-            Ok(shape) => told_marks_of(document, seat, shape, words),
+        let alloc = self.documents.alloc;
+        let [name, ..] = words else { unreachable!() };
+        let name = name.as_str();
+        if is_word(name, "text") {
+            answered(alloc, self.create_shaped(words))
+        } else if is_word(name, "destroy") {
+            answered(alloc, self.destroy_shaped(words))
+        } else {
+            self.on_widget(name, words, follows)
         }
     }
 
@@ -361,21 +337,9 @@ impl<S: TextStore> World<S> {
             (step self.old (texts_of words.now)) }
         ensures tells { IfOk result (λ told. TellsOf self.old self.new (texts_of words.now) told.edit) }
         ensures marks { IfOk result (λ told. MarksTellOf self.old self.new (texts_of words.now) told.marks) }
+        ensures frugal { are_frugal (texts_of words.now) ≡ true → result ≢ Err Fault.Memory }
     {
-        // Read first, so that every return knows that the world is well formed.
-        let _documents = &self.documents;
-        let [name, ..] = words else { unreachable!() };
-        let name = name.as_str();
-        let edit = self.told_of(name, words)?;
-        let marks = self.told_marks(name, words)?;
-        match self.call(words) {
-            Err(fault) => Err(fault),
-            Ok(answer) => Ok(Told {
-                answer,
-                edit,
-                marks,
-            }),
-        }
+        self.carry_out(words, true)
     }
 
     /// Carries out a command of one word or more. A fault leaves the world as it was.
@@ -384,13 +348,6 @@ impl<S: TextStore> World<S> {
         ensures makes { Makes self.old self.new result (step self.old (texts_of words.now)) }
         ensures frugal { are_frugal (texts_of words.now) ≡ true → result ≢ Err Fault.Memory }
     {
-        let [name, ..] = words else { unreachable!() };
-        if is_word(name.as_str(), "text") {
-            self.create_shaped(words)
-        } else if is_word(name.as_str(), "destroy") {
-            self.destroy_shaped(words)
-        } else {
-            self.on_widget(name.as_str(), words)
-        }
+        Ok(self.carry_out(words, false)?.answer)
     }
 }

@@ -5,8 +5,8 @@ use Rattle.peers.proofs.commands.command.Goals as goal
 
 pub returns-clause-does : goal.returns-clause-does
 returns-clause-does g c = λ windows.
-    let document = c.args.document.now in let limits = c.args.limits.now in
-    let widget = widget_at document c.args.seat in let shape = c.args.shape in
+    let document = c.args.document.now in let limits = c.args.caller.limits.now in
+    let widget = widget_at document c.args.caller.seat in let shape = c.args.shape in
     does-same _ _
     (λ _. ap₂ (λ switches arguments. done shape.command document (record {
       limits = limits;

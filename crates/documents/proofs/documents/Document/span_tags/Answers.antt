@@ -10,12 +10,12 @@ use Rattle.std.specs.FinSet as set
 use Rattle.documents.proofs.documents.Document.span_tags.Goals as goal
 
 pub returns : goal.returns
-returns g c =
+returns g c = λ follows.
     let old = c.self.inside in
     let document = c.args.self.now in
     let parts = parts_of g.S.TextStore.content old in
     let stands : Stands parts document = record { sound = c.self.invariant; is = c.self.view_is } in
-    let place = c.args.seat in
+    let place = c.args.caller.now.seat in
     let slot = c.number.result in
     let seat = sits place stands c.number.ensures.value in
     let name = chars c.args.name.now in

@@ -12,16 +12,16 @@ use Rattle.documents.proofs.documents.Document.told_deletion.Goals as goal
 
 pub start_of-start-requires : goal.start_of-start-requires
 start_of-start-requires g c =
-    anchors-there c.args.seat (stand c.self.invariant c.self.view_is) c.number-slot.ensures.value c.deref.ensures.value
+    anchors-there c.args.caller.now.seat (stand c.self.invariant c.self.view_is) c.number-slot.ensures.value c.deref.ensures.value
 
 pub end_of-end-requires : goal.end_of-end-requires
 end_of-end-requires g c =
-    anchors-there c.args.seat (stand c.self.invariant c.self.view_is) c.number-slot.ensures.value
+    anchors-there c.args.caller.now.seat (stand c.self.invariant c.self.view_is) c.number-slot.ensures.value
     c.deref-2.ensures.value
 
 -- the view of the widget
 seen : (g : Over) (c : After-end_of-end g)
-    → IsSeen (parts_of g.S.TextStore.content c.self.inside) c.args.self.now c.args.seat c.number-slot.result
+    → IsSeen (parts_of g.S.TextStore.content c.self.inside) c.args.self.now c.args.caller.now.seat c.number-slot.result
     (g.S.TextStore.content c.self.inside.text.store) c.start_of-start.result c.end_of-end.result
 seen g c =
     see-ends (stand c.self.invariant c.self.view_is) c.number-slot.ensures.value c.deref.ensures.value
@@ -35,7 +35,7 @@ spans_of-requires-clause-within g c =
 -- the spans between the places
 spans : (g : Over) (c : After-deref-3 g)
     → (c.deref-3.result.now
-    ≡ spans_shown c.args.self.now (widget_at c.args.self.now c.args.seat) c.args.places.now)
+    ≡ spans_shown c.args.self.now (widget_at c.args.self.now c.args.caller.now.seat) c.args.places.now)
     × All (SpanFits c.end_of-end.result) c.deref-3.result.now
 spans g c =
     spans-in c.args.places.now (seen g (goal.at.deleted_runs-requires-clause-spans g c).After-end_of-end)
@@ -76,7 +76,7 @@ tell_hunks-requires g c =
     }
 
 pub returns : goal.returns
-returns g c =
+returns g c = λ follows.
     let parts = parts_of g.S.TextStore.content c.self.inside in
     let document = c.args.self.now in
     let kept = c.self.invariant.kept in

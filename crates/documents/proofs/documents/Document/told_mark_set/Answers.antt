@@ -5,8 +5,8 @@ use Rattle.documents.proofs.documents.Document.told_mark_set.Goals.{then-not-sta
 use Rattle.documents.proofs.documents.Document.told_mark_set.Goals as goal
 
 pub returns : goal.returns
-returns g c = λ limits.
-    let document = c.args.self.now in let widget = widget_at document c.args.seat in let name = chars c.args.name.now in
+returns g c = λ follows limits.
+    let document = c.args.self.now in let widget = widget_at document c.args.caller.now.seat in let name = chars c.args.name.now in
     let offset = mark_offset document widget name c.args.place in let there = place_named document widget name in
     let told : List (List ℕ) = c.if-not-stands_at.told in
     let is : told ≡ told_of name c.stands_at.result = elim c.if-not-stands_at.branch [

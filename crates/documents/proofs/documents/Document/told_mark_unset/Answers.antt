@@ -12,7 +12,7 @@ loop-name-preserved g c =
     (c.in_ok-tell_shared.ensures (texts_of (take at names)) c.loop-name.invariant)
 
 pub returns : goal.returns
-returns g c =
+returns g c = λ follows.
     let names = c.args.names.now in
     let seen : ℕ → Bool = contains nat_cmp c.loop-name.seen in
     foretells-unset c.args.self.now (texts_of names) seen c.loop-name.told

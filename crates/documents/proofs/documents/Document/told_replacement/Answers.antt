@@ -1,6 +1,5 @@
-use Rattle.documents.proofs.Common.{◌+◌, ◌<◌, ◌≤◌, ◌^◌, ◌++◌, List, arith, length, ap, subst, ◌∙◌, putting, taking_out}
-use Rattle.documents.proofs.Common.{replacing-stand, Pair, total, Widget, widget_at, parts_of, TellsPairs}
-use Rattle.documents.proofs.Common.{insertion_offset}
+use Rattle.documents.proofs.Common.{◌+◌, ◌≤◌, ◌++◌, arith, length, ap, ◌∙◌, putting, taking_out, replacing-stand}
+use Rattle.documents.proofs.Common.{Widget, widget_at, parts_of, insertion_offset}
 use Rattle.documents.proofs.PairTagLaws.{texts_of}
 use Rattle.documents.proofs.PartsLaws.{cells-kept}
 use Rattle.documents.proofs.ToldLaws.{replacement-foretold}
@@ -12,7 +11,7 @@ pair_tags-requires-clause-ordered g c =
 
 pub tell_hunks-requires : goal.tell_hunks-requires
 tell_hunks-requires g c =
-    let texts = texts_of c.args.pairs.items in
+    let texts = texts_of c.args.pairs.now in
     let start = c.insertion_offset-start in
     let end = c.insertion_offset-end in
     let are = c.in_ok-push_removal.ensures ∙ ap (λ hs. hs ++ taking_out start.result end.result)
@@ -26,11 +25,11 @@ tell_hunks-requires g c =
     }
 
 pub returns : goal.returns
-returns g c = λ limits bounds.
+returns g c = λ follows limits bounds.
     let document = c.args.self.now in
-    let widget : Widget = widget_at document c.args.seat in
+    let widget : Widget = widget_at document c.args.caller.now.seat in
     let parts = parts_of g.S.TextStore.content c.self.inside in
-    let texts = texts_of c.args.pairs.items in
+    let texts = texts_of c.args.pairs.now in
     let start = c.insertion_offset-start in
     let end = c.insertion_offset-end in
     let begins = start.ensures.value in
@@ -39,11 +38,9 @@ returns g c = λ limits bounds.
     let short = c.self.invariant.kept.short in
     let long = cells-kept parts document c.self.view_is in
     replacement-foretold limits document widget (insertion_offset document widget c.args.from)
-    (insertion_offset document widget c.args.to) start.result end.result c.args.pairs.items
+    (insertion_offset document widget c.args.to) start.result end.result c.args.pairs.now
     c.push_removal.new.hunks.items c.in_ok-tags.tags c.in_ok-tell_hunks.field-0 bounds begins ends ordered
     (omega (arith, short, long))
     (c.in_ok-push_removal.ensures ∙ ap (λ hs. hs ++ taking_out start.result end.result)
     (c.in_ok-push_texts.ensures ∙ ap (λ hs. hs ++ putting start.result texts) c.in_ok-hunks.ensures.items))
-    (subst (λ (ps : List Pair). length document.cells + total ps < 2 ^ 64
-    → TellsPairs widget start.result end.result ps document.cells c.in_ok-tags.tags) c.deref.ensures.value
-    c.in_ok-tags.ensures) c.in_ok-tell_hunks.ensures
+    c.in_ok-tags.ensures c.in_ok-tell_hunks.ensures

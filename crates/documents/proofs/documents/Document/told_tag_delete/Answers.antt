@@ -3,7 +3,7 @@ use Rattle.documents.proofs.SpanToldLaws.{tags-alone}
 use Rattle.documents.proofs.documents.Document.told_tag_delete.Goals as goal
 
 pub returns : goal.returns
-returns g c =
+returns g c = λ follows.
     let document = c.args.self.now in
     let names = texts_of c.args.names.now in
     let told = c.in_ok-tags.tags in

@@ -1,8 +1,9 @@
 use Rattle.peers.proofs.Common.{◌≡◌, Some, None, sym, ap, subst, ◌∙◌, chars, texts_of, shape_fault, InvalidCommandName}
 use Rattle.peers.proofs.Common.{widget_named, Makes, changed, on_home, refuses, IsWellFormed, World, all_windows}
-use Rattle.peers.proofs.Common.{document_at, home}
+use Rattle.peers.proofs.Common.{document_at, home, true, IfOk, answer_of, TellsAt, MarksTellAt}
 use Rattle.peers.proofs.HomeStepLaws.{bad-command, found-change, home-is, home-stands, some-widget}
 use Rattle.peers.proofs.MakesLaws.{changed-refuses, makes-refused}
+use Rattle.peers.proofs.world.World.on_widget.Goals.{After-on_document}
 use Rattle.peers.proofs.world.World.on_widget.Goals as goal
 
 pub returns-in_default-clause-makes : goal.returns-in_default-clause-makes
@@ -43,5 +44,23 @@ returns-in-Ok-clause-makes g c =
     let homes = home-stands name c.self.inside.documents.list.items c.self.invariant.1 c.home.ensures
     ∙ ap (λ (w : World). home name w.documents) c.self.view_is in
     let some : home name world.documents ≡ Some c.in-Some.place = sym homes ∙ c.in-Some.is in
-    subst (Makes world c.on_document.new.self c.on_document.result) (sym (ap (on_home world name words) some))
-    c.on_document.ensures.makes
+    subst (Makes world c.on_document.new.self (answer_of c.on_document.result))
+    (sym (ap (on_home world name words) some)) c.on_document.ensures.makes
+
+-- where the widget is
+there : (g : _) (c : After-on_document g) → home (chars c.args.name.now) c.args.self.now.documents ≡ Some c.in-Some.place
+there g c =
+    sym (home-stands (chars c.args.name.now) c.self.inside.documents.list.items c.self.invariant.1 c.home.ensures
+    ∙ ap (λ (w : World). home (chars c.args.name.now) w.documents) c.self.view_is) ∙ c.in-Some.is
+
+pub returns-in-Ok-clause-tells : goal.returns-in-Ok-clause-tells
+returns-in-Ok-clause-tells g c =
+    subst (λ at. c.args.follows ≡ true → IfOk c.on_document.result (λ told.
+    TellsAt c.args.self.now c.on_document.new.self at told.edit))
+    (sym (there g (goal.at.returns-in-Ok-clause-tells g c).After-on_document)) c.on_document.ensures.tells
+
+pub returns-in-Ok-clause-marks : goal.returns-in-Ok-clause-marks
+returns-in-Ok-clause-marks g c =
+    subst (λ at. c.args.follows ≡ true → IfOk c.on_document.result (λ told. MarksTellAt c.args.self.now
+    c.on_document.new.self (chars c.args.name.now) (texts_of c.args.words.now) at told.marks))
+    (sym (there g (goal.at.returns-in-Ok-clause-marks g c).After-on_document)) c.on_document.ensures.marks
