@@ -71,7 +71,7 @@ def can_run(python):
     """Whether everything is installed."""
     if shutil.which("xvfb-run") is None or shutil.which(python) is None:
         return False
-    wanted = "import tkinter, test.support, tkinter.test, idlelib.idle_test.mock_tk"
+    wanted = "import tkinter, test.support, tkinter.test, idlelib.idle_test.mock_tk, idlelib.history"
     return subprocess.run([python, "-c", wanted], capture_output=True).returncode == 0
 
 
