@@ -4,7 +4,7 @@
 
 Checks the crate from nothing by one process, over the libraries that are built here or in FOLDER (tools/over.py), and
 sees when the check writes the file of each module; with `--test`, its tests too.  Prints the prover's own seconds of
-processor, so other work on the machine changes little, by function and lemma file, the most expensive first: all of
+processor (user), so other work on the machine changes little, by function and lemma file, the most expensive first: all of
 it, then the steps of the code, the goals, the answers (with the invariants), and the rest.  Modules that are written
 together share their time evenly.
 """
@@ -20,6 +20,7 @@ import tempfile
 import time
 
 import build
+import gate
 import over
 
 KINDS = {"Lts": "steps", "Tie": "steps", "Proof": "goals", "Answers": "answers", "Invariants": "answers", "Goals": "answers"}
@@ -41,12 +42,17 @@ def function_and_kind(module):
 
 
 def processor_seconds(process):
-    """The seconds of processor that a process took so far, or None where it has ended."""
-    try:
-        fields = pathlib.Path(f"/proc/{process.pid}/stat").read_text().rpartition(")")[2].split()
-    except OSError:
-        return None
-    return (int(fields[11]) + int(fields[12])) / os.sysconf("SC_CLK_TCK") if fields[0] != "Z" else None
+    """The seconds of processor (user) that a process and all below it took so far, or None where it has ended."""
+    running = gate.running_processes()
+    ticks = [found.ticks for found in running.values() if is_below(found, process.pid, running)]
+    return sum(ticks) / gate.TICKS_PER_SECOND if ticks else None
+
+
+def is_below(found, top, running):
+    """Whether a process is the one of a number, or one that it began."""
+    while found is not None and found.number != top:
+        found = running.get(found.parent)
+    return found is not None
 
 
 def new_modules(folder, seen):
