@@ -17,7 +17,7 @@ use edit_ops::{EditRules, Target};
 use text_model::{MarkNo, TagSlot, TextStore};
 
 impl<S: TextStore> Document<S> {
-    /// Deletes the ranges between pairs of places. What that changes.
+    /// Deletes the ranges between pairs of places. Returns what that changes.
     pub fn delete_places(
         &mut self,
         caller: &Caller<'_>,
@@ -47,8 +47,8 @@ impl<S: TextStore> Document<S> {
         Ok(told)
     }
 
-    /// Puts texts in the place of the characters between two places, and makes the tags of their lists. The end of the
-    /// view counts as the place of its last character. What that changes.
+    /// Replaces the characters between two places by texts, and makes the tags of their lists. The end of the
+    /// view counts as the place of its last character. Returns what that changes.
     pub fn replace_between(
         &mut self,
         caller: &Caller<'_>,

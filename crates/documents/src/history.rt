@@ -66,7 +66,7 @@ impl<S: TextStore> Document<S> {
 }
 
 impl<S: TextStore> Document<S> {
-    /// `W edit undo` (text(n), "edit undo"). What that changes.
+    /// `W edit undo` (text(n), "edit undo"). Returns what that changes.
     pub fn edit_undo(&mut self, caller: &Caller<'_>) -> Result<EditTold, Fault>
         requires shown { caller.now.seat < length self.old.widgets }
         requires formed { IsWellFormedDocument caller.now.limits.now self.old }
@@ -89,7 +89,7 @@ impl<S: TextStore> Document<S> {
         Ok(told)
     }
 
-    /// `W edit redo` (text(n), "edit redo"). What that changes.
+    /// `W edit redo` (text(n), "edit redo"). Returns what that changes.
     pub fn edit_redo(&mut self, caller: &Caller<'_>) -> Result<EditTold, Fault>
         requires shown { caller.now.seat < length self.old.widgets }
         requires formed { IsWellFormedDocument caller.now.limits.now self.old }

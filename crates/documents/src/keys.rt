@@ -1,4 +1,4 @@
-//! The keys of tags, as they are told.
+//! The keys of tags, as changes of tags report them.
 
 ghost use Rattle.std.specs.Prelude.{◌≡◌, ◌<◌, ◌++◌, chars, filter, map, IfOk, OnOk};
 ghost use Rattle.documents.specs.Keys.{is_shared, key_named, key_pairs, keys_listed, keys_named, seat_pair, tag_pair};

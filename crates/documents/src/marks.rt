@@ -137,7 +137,7 @@ impl<S: TextStore> Document<S> {
         Ok(Text::new(String::from_str(self.alloc, name)?))
     }
 
-    /// The mark behind another one in the order of marks, or the first at or behind a place of the view.
+    /// The mark behind another one in the order of marks, or the first at or after a place of the view.
     pub fn next_mark(&self, seat: usize, origin: Origin) -> Option<WidgetMark>
         requires shown { seat < length self.now.widgets }
         ensures { result ≡ next_mark origin (usable_marks self.now (widget_at self.now seat)) }
@@ -167,7 +167,7 @@ impl<S: TextStore> Document<S> {
 }
 
 impl<S: TextStore> Document<S> {
-    /// Puts the widget's `insert` at a place.
+    /// Moves the widget's `insert` to a place.
     fn put_insert(&mut self, seat: usize, place: Place) -> Result<Answer, Fault>
         requires shown { seat < length self.old.widgets }
         requires stands { place.offset ≤ length self.old.cells }
@@ -185,7 +185,7 @@ impl<S: TextStore> Document<S> {
         }
     }
 
-    /// Puts the widget's `current` at a place.
+    /// Moves the widget's `current` to a place.
     fn put_current(&mut self, seat: usize, place: Place) -> Result<Answer, Fault>
         requires shown { seat < length self.old.widgets }
         requires stands { place.offset ≤ length self.old.cells }
@@ -203,7 +203,7 @@ impl<S: TextStore> Document<S> {
         }
     }
 
-    /// Puts the shared mark of a name at a place, if there is one.
+    /// Moves the shared mark of a name to a place, if there is one.
     fn put_shared(&mut self, name: &str, place: Place) -> Result<Answer, Fault>
         requires { place.offset ≤ length self.old.cells }
         ensures { (limits : LimitTable) → Does limits self.old self.new result
@@ -225,7 +225,7 @@ impl<S: TextStore> Document<S> {
         }
     }
 
-    /// Puts the mark of a name at a place, if there is one.
+    /// Moves the mark of a name to a place, if there is one.
     pub fn put_mark(&mut self, seat: usize, name: &str, place: Place) -> Result<Answer, Fault>
         requires shown { seat < length self.old.widgets }
         requires stands { place.offset ≤ length self.old.cells }

@@ -1,4 +1,4 @@
-//! What commands tell of marks: the names of those that they move.
+//! Reports of marks: the names of those that a command moves.
 
 ghost use Rattle.std.specs.Prelude.{◌≡◌, ◌≢◌, ◌+◌, ◌<◌, ◌≤◌, ◌++◌, ◌∷◌, [], ℕ, List, Some, true, chars, length};
 ghost use Rattle.std.specs.Prelude.{IfOk, MatchOption, OnOk};

@@ -38,7 +38,7 @@ fn make_room<T: Copy>(list: &mut Vec<T>, value: T, slot: u16) -> Result<(), Allo
 }
 
 /// Puts the name of a new widget last and gives it the least free slot, for which what is kept by slot gets long
-/// enough, with its own two marks at an offset. Where memory is refused, the name may stand behind the others.
+/// enough, with its own two marks at an offset. Where memory is refused, the name may be left after the others.
 pub fn make_seat<S: TextStore>(
     alloc: Global,
     seats: &mut NameList,

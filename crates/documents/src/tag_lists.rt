@@ -1,4 +1,4 @@
-//! What is told of tags.
+//! Changes of tags, as they are reported.
 
 ghost use Rattle.std.specs.Prelude.{◌≡◌, ◌+◌, ◌<◌, ◌≤◌, ◌++◌, ◌∷◌, [], false, length, Bool, List, OnOk};
 ghost use Rattle.std.specs.List.{All};
@@ -133,7 +133,7 @@ impl TagList {
     }
 
     /// Adds that a key that no character has is put on spans, of which the last comes first. Where it is taken off,
-    /// nothing is to be told.
+    /// nothing is to be reported.
     pub fn push_whole(&mut self, key: &Key, spans: &[Span], on: bool) -> Result<(), AllocError>
         ensures { OnOk result ((flags : List Bool) → AreApart (length flags + 1) spans.now →
             All (λ flag. flag ≡ false) flags → TellsSpans key.now on flags spans.now self.old self.new) }

@@ -75,7 +75,7 @@ impl<S: TextStore> Document<S> {
         Ok(Text::new(list))
     }
 
-    /// Where the first range of a tag begins and ends that begins at a place or behind it, as a list, if it begins
+    /// Where the first range of a tag begins and ends that begins at a place or after it, as a list, if it begins
     /// before another.
     pub fn next_listed(
         &self,
@@ -127,7 +127,7 @@ impl<S: TextStore> Document<S> {
 }
 
 impl<S: TextStore> Document<S> {
-    /// Puts a tag on the ranges between pairs of places, and makes it if it is new. What that changes.
+    /// Adds a tag to the ranges between pairs of places, and makes it if it is new. Returns what that changes.
     pub fn add_spans(
         &mut self,
         caller: &Caller<'_>,
@@ -166,7 +166,7 @@ impl<S: TextStore> Document<S> {
         }
     }
 
-    /// Takes a tag off the ranges between pairs of places, if there is one of that name. What that changes.
+    /// Removes a tag from the ranges between pairs of places, if there is one of that name. Returns what that changes.
     pub fn remove_spans(
         &mut self,
         caller: &Caller<'_>,
@@ -190,7 +190,8 @@ impl<S: TextStore> Document<S> {
         Ok(EditTold::of_tags(self.alloc, tags))
     }
 
-    /// Takes tags off all characters, and their names out. `sel` and unknown names are skipped. What that changes.
+    /// Deletes tags, and removes them from all characters. `sel` and unknown names are skipped. Returns what that
+    /// changes.
     pub fn delete_tags(&mut self, caller: &Caller<'_>, names: &[String]) -> Result<EditTold, Fault>
         ensures does { (limits : LimitTable) → Does limits self.old self.new (reply_of result)
             (tag_delete self.old (texts_of names.now)) }
@@ -205,7 +206,7 @@ impl<S: TextStore> Document<S> {
         Ok(told)
     }
 
-    /// Puts a tag highest, or just above another one. The tag is the word at a position, the other one that behind it.
+    /// Puts a tag highest, or just above another one. The tag is the word at a position, the other one that after it.
     pub fn raise(
         &mut self,
         position: usize,
@@ -227,7 +228,7 @@ impl<S: TextStore> Document<S> {
         }
     }
 
-    /// Puts a tag lowest, or just below another one. The tag is the word at a position, the other one that behind it.
+    /// Puts a tag lowest, or just below another one. The tag is the word at a position, the other one that after it.
     pub fn lower(
         &mut self,
         position: usize,

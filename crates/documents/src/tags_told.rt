@@ -1,4 +1,4 @@
-//! What commands tell of tags.
+//! Reports of commands that change tags.
 
 ghost use Rattle.std.specs.Prelude.{◌≡◌, ℕ, ◌+◌, ◌-◌, ◌<◌, ◌≤◌, ◌^◌, ◌++◌, ◌∷◌, [], Some, true, false, chars};
 ghost use Rattle.std.specs.Prelude.{length, option_map, slice_get, sum_by, IfOk, List, OnOk};
@@ -87,7 +87,7 @@ pub fn count_in(spans: &[Span]) -> usize
     count
 }
 
-/// What is told of tags where the character at an offset has these slots, and loses them.
+/// Returns the changes of tags where the character at an offset has these slots, and loses them.
 pub fn bare_tags(
     alloc: Global,
     seats: &NameList,
@@ -119,7 +119,7 @@ pub fn bared_slots<S: TextStore>(store: &S, offset: usize, is_bared: bool) -> Ta
     }
 }
 
-/// What is told of tags where runs of characters get slots.
+/// Returns the changes of tags where runs of characters get slots.
 pub fn run_tags(
     alloc: Global,
     seats: &NameList,
@@ -138,7 +138,7 @@ pub fn run_tags(
 }
 
 impl<S: TextStore> Document<S> {
-    /// What is told of tags where texts take the place of the characters from one offset to another.
+    /// Returns the changes of tags where texts take the place of the characters from one offset to another.
     pub(crate) fn pair_tags(
         &self,
         seat: usize,
@@ -198,7 +198,7 @@ fn push_gone<S: TextStore>(
     told.push_unlike(store, slot, key, Span { from: 0, to }, false)
 }
 
-/// What is told where the tags of some names go.
+/// Returns the changes where the tags of some names go.
 fn tell_gone<S: TextStore>(
     alloc: Global,
     store: &S,
@@ -221,7 +221,7 @@ fn tell_gone<S: TextStore>(
 // ---- commands on tags
 
 impl<S: TextStore> Document<S> {
-    /// What it changes to put the tag of a name, as a widget knows it, on spans, or to take it off them.
+    /// Returns what it changes to add the tag of a name, as a widget knows it, to spans, or to remove it from them.
     pub(crate) fn span_tags(
         &self,
         caller: &Caller<'_>,

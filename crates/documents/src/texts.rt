@@ -14,7 +14,7 @@ use std::alloc::AllocError;
 use text_model::{TagSlot, Text, TextStore};
 
 impl<S: TextStore> Document<S> {
-    /// The characters from one place to another; none where the second isn't behind the first.
+    /// The characters from one place to another; none where the second isn't after the first.
     pub fn text_between(&self, seat: usize, from: usize, to: usize) -> Result<Text, AllocError>
         requires shown { seat < length self.now.widgets }
         requires from { from ≤ length (shown self.now (widget_at self.now seat)) }
@@ -37,7 +37,7 @@ impl<S: TextStore> Document<S> {
         Ok(Text::new(view.store.copy_text(start, (start + 1).min(view.e))?))
     }
 
-    /// The offset before which a text goes that is put in at a place: before the last newline where that is the end.
+    /// The offset at which a text is inserted for a place: before the last newline where that is the end.
     pub fn insertion_offset(&self, seat: usize, place: usize) -> usize
         requires shown { seat < length self.now.widgets }
         requires active { is_idle self.now (widget_at self.now seat) ≡ false }
@@ -49,7 +49,8 @@ impl<S: TextStore> Document<S> {
         (view.s + place).min(view.e - 1)
     }
 
-    /// Puts texts in at an offset, each behind the one before it, and makes the tags of their lists. What that changes.
+    /// Inserts texts at an offset, each after the one before it, and makes the tags of their lists. Returns what that
+    /// changes.
     pub fn insert_at(
         &mut self,
         caller: &Caller<'_>,

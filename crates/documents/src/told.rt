@@ -1,4 +1,4 @@
-//! What commands that edit the text tell.
+//! Reports of commands that edit the text.
 
 ghost use Rattle.std.specs.Prelude.{◌≡◌, ◌<◌, ◌≤◌, ◌++◌, [], true, false, length, map, List, OnOk, IfOk, IsSome};
 ghost use Rattle.std.specs.List.{All};
@@ -28,7 +28,7 @@ use std::alloc::{AllocError, Global};
 use text_model::{Text, TextStore};
 use undo_stack::Group;
 
-/// Adds the hunks that put copies of texts in at an offset, each behind the one before it.
+/// Adds the hunks that insert copies of texts at an offset, each after the one before it.
 fn push_texts(
     alloc: Global,
     hunks: &mut Vec<Hunk>,
@@ -45,7 +45,7 @@ fn push_texts(
     Ok(())
 }
 
-/// What is told of an edit: changes of the text, and changes of tags behind these.
+/// The report of an edit: changes of the text, and then changes of tags.
 #[derive(Drop)]
 pub struct EditTold {
     pub changes: ChangeList,
@@ -53,7 +53,7 @@ pub struct EditTold {
 }
 
 impl EditTold {
-    /// Nothing is told. It takes no memory.
+    /// An empty report. It allocates nothing.
     pub fn nothing(alloc: Global) -> EditTold
         ensures { result ≡ record { changes = []; tags = [] } }
     {
@@ -72,7 +72,7 @@ impl EditTold {
 }
 
 impl<S: TextStore> Document<S> {
-    /// What it tells to make hunks of the text, and behind these changes of tags.
+    /// Returns the report of hunks of the text, and then of changes of tags.
     fn tell_hunks(&self, hunks: Vec<Hunk>, tags: TagList) -> Result<EditTold, AllocError>
         requires stand { AreHunks 0 (length self.now.cells) hunks.items }
         ensures { IfOk result (λ told. (cells : List KeyedCell) →

@@ -97,7 +97,7 @@ fn answer<S: TextStore>(
     }
 }
 
-/// A command of a widget but `peer create`, as it is called, and what it tells.
+/// A command of a widget but `peer create`, as it is called. Returns its answer and its report.
 fn carry_out<S: TextStore>(
     document: &mut Document<S>,
     command: Command,
@@ -144,7 +144,8 @@ fn carry_out<S: TextStore>(
     }
 }
 
-/// A command of a widget but `peer create`, of all its words, which have this shape, and what it tells.
+/// A command of a widget but `peer create`, of all its words, which have this shape. Returns its answer and its
+/// report.
 pub fn command<S: TextStore>(
     document: &mut Document<S>,
     caller: Caller<'_>,

@@ -14,7 +14,7 @@ use command_effects::{Fault, Pair, first_two, pairs_at};
 use documents::{Caller, Document, EditTold};
 use text_model::TextStore;
 
-/// Deletes the ranges between pairs of places, unless the widget is disabled. What that changes.
+/// Deletes the ranges between pairs of places, unless the widget is disabled. Returns what that changes.
 fn delete_found<S: TextStore>(
     document: &mut Document<S>,
     caller: &Caller<'_>,
@@ -34,7 +34,7 @@ fn delete_found<S: TextStore>(
     document.delete_places(caller, places)
 }
 
-/// `W delete I ?I ..?` (text(n), "delete"). The arguments stand from a position on. What that changes.
+/// `W delete I ?I ..?` (text(n), "delete"). The arguments begin at a position. Returns what that changes.
 pub fn delete<S: TextStore>(
     document: &mut Document<S>,
     caller: &Caller<'_>,
@@ -51,8 +51,8 @@ pub fn delete<S: TextStore>(
     delete_found(document, caller, &places)
 }
 
-/// Puts texts in the place of the characters between two places, of which the second is the word at a position, unless
-/// the widget is disabled. What that changes.
+/// Replaces the characters between two places by texts, where the second place is the word at a position, unless
+/// the widget is disabled. Returns what that changes.
 fn replace_places<S: TextStore>(
     document: &mut Document<S>,
     caller: &Caller<'_>,
@@ -77,8 +77,8 @@ fn replace_places<S: TextStore>(
     document.replace_between(caller, from, to, pairs)
 }
 
-/// `W replace A B chars ?tagList chars ..?` (text(n), "replace"). The arguments stand from a position on. What that
-/// changes.
+/// `W replace A B chars ?tagList chars ..?` (text(n), "replace"). The arguments begin at a
+/// position. Returns what that changes.
 pub fn replace<S: TextStore>(
     document: &mut Document<S>,
     caller: &Caller<'_>,

@@ -15,7 +15,7 @@ use documents::Document;
 use text_model::TextStore;
 
 /// The settings with the values of options, of which the first stands at a position, for a document of so many lines:
-/// each value is decided, and then whether the view begins behind its end.
+/// each value is decided, and then whether the view begins after its end.
 pub fn settings_given(
     settings: Settings,
     position: usize,

@@ -278,7 +278,7 @@ pub fn count<S: TextStore>(
     }
 }
 
-/// The place behind that of a character, or the end.
+/// The place after that of a character, or the end.
 fn place_behind<S: TextStore>(document: &Document<S>, seat: usize, place: usize) -> usize
     requires shown { seat < length document.now.widgets }
     requires within { place ≤ length (shown document.now (widget_at document.now seat)) }

@@ -15,7 +15,7 @@ use command_effects::{Answer, Fault, first, none_or_one, one, one_or_two, two_or
 use documents::{Caller, Document, EditTold};
 use text_model::TextStore;
 
-/// `W tag add T I ?I ..?` (text(n), "tag add"). The arguments stand from a position on. What that changes.
+/// `W tag add T I ?I ..?` (text(n), "tag add"). The arguments begin at a position. Returns what that changes.
 pub fn tag_add<S: TextStore>(
     document: &mut Document<S>,
     caller: &Caller<'_>,
@@ -34,7 +34,7 @@ pub fn tag_add<S: TextStore>(
     document.add_spans(caller, name, &places)
 }
 
-/// `W tag remove T I ?I ..?` (text(n), "tag remove"). The arguments stand from a position on. What that changes.
+/// `W tag remove T I ?I ..?` (text(n), "tag remove"). The arguments begin at a position. Returns what that changes.
 pub fn tag_remove<S: TextStore>(
     document: &mut Document<S>,
     caller: &Caller<'_>,

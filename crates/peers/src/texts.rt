@@ -16,8 +16,8 @@ use documents::{Caller, Document, EditTold};
 use std::alloc::AllocError;
 use text_model::{Text, TextStore};
 
-/// Puts texts in at a place, or just before the last newline where that is the end, unless the widget is disabled. What
-/// that changes.
+/// Inserts texts at a place, or just before the last newline where that is the end, unless the widget is disabled.
+/// Returns what that changes.
 fn insert_pairs<S: TextStore>(
     document: &mut Document<S>,
     caller: &Caller<'_>,
@@ -38,8 +38,8 @@ fn insert_pairs<S: TextStore>(
     document.insert_at(caller, document.insertion_offset(caller.seat, place), pairs)
 }
 
-/// `W insert I chars ?tagList chars ..?` (text(n), "insert"). The arguments stand from a position on. What that
-/// changes.
+/// `W insert I chars ?tagList chars ..?` (text(n), "insert"). The arguments begin at a position.
+/// Returns what that changes.
 pub fn insert<S: TextStore>(
     document: &mut Document<S>,
     caller: &Caller<'_>,

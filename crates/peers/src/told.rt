@@ -1,4 +1,4 @@
-//! What is told of a command.
+//! Reports of commands.
 
 ghost use Rattle.std.specs.Prelude.{◌≡◌};
 ghost use Rattle.peers.specs.Told.{answered, edited, moved};
@@ -16,7 +16,7 @@ pub struct Told {
     pub marks: MovedMarks,
 }
 
-/// What is told of a command that changes nothing of that, by its answer.
+/// The report of a command that changes nothing of that, by its answer.
 pub fn answered(alloc: Global, answer: Result<Answer, Fault>) -> Result<Told, Fault>
     ensures { result ≡ answered answer }
 {
@@ -27,7 +27,7 @@ pub fn answered(alloc: Global, answer: Result<Answer, Fault>) -> Result<Told, Fa
     })
 }
 
-/// What is told of a command that answers nothing, by what it changed of the text and of its tags.
+/// The report of a command that answers nothing, by what it changed of the text and of its tags.
 pub fn edited(alloc: Global, edit: Result<EditTold, Fault>) -> Result<Told, Fault>
     ensures { result ≡ edited edit }
 {
@@ -38,7 +38,7 @@ pub fn edited(alloc: Global, edit: Result<EditTold, Fault>) -> Result<Told, Faul
     })
 }
 
-/// What is told of a command that answers nothing, by the marks that it moved.
+/// The report of a command that answers nothing, by the marks that it moved.
 pub fn moved(alloc: Global, marks: Result<MovedMarks, Fault>) -> Result<Told, Fault>
     ensures { result ≡ moved marks }
 {

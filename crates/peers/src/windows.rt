@@ -64,7 +64,7 @@ impl Windows {
         Some(self.homes[index])
     }
 
-    /// Puts the name of a new widget in, before the one at an index of the order, with the place of its document.
+    /// Inserts the name of a new widget, before the one at an index of the order, with the place of its document.
     pub fn put(
         &mut self,
         alloc: Global,

@@ -221,7 +221,7 @@ impl<S: TextStore> World<S> {
     }
 
     /// A command of the widget of a name, which shows the document at a place, of all its words, which have this shape.
-    /// Who follows is told what it changed.
+    /// Where the caller follows, it reports what it changed.
     fn on_document(
         &mut self,
         place: usize,
@@ -261,7 +261,7 @@ impl<S: TextStore> World<S> {
         }
     }
 
-    /// A command of the widget of a name, of all its words. Who follows is told what it changed.
+    /// A command of the widget of a name, of all its words. Where the caller follows, it reports what it changed.
     fn on_widget(&mut self, name: &str, words: &[String], follows: bool) -> Result<Told, Fault>
         requires { 0 < length words.now }
         ensures makes { Makes self.old self.new (answer_of result)
@@ -306,7 +306,7 @@ impl<S: TextStore> World<S> {
         Some(self.document(name)?.can_redo())
     }
 
-    /// Carries out a command of one word or more. Who follows is told what it changed.
+    /// Carries out a command of one word or more. Where the caller follows, it reports what it changed.
     fn carry_out(&mut self, words: &[String], follows: bool) -> Result<Told, Fault>
         requires { 0 < length words.now }
         ensures makes { Makes self.old self.new (answer_of result) (step self.old (texts_of words.now)) }
@@ -328,9 +328,9 @@ impl<S: TextStore> World<S> {
         }
     }
 
-    /// Carries out a command as `call` does, and tells what it changed of the text that its widget shows and of the
-    /// tags there, if its first word names one, and, unless it edits the text, which marks it moved. All that is told
-    /// is there before anything changes, so where memory is refused the world is as it was.
+    /// Carries out a command as `call` does, and reports what it changed of the text that its widget shows and of the
+    /// tags there, if its first word names one, and, unless it edits the text, which marks it moved. The report is
+    /// allocated before anything changes, so where an allocation fails the world is as it was.
     pub fn call_told(&mut self, words: &[String]) -> Result<Told, Fault>
         requires { 0 < length words.now }
         ensures makes { Makes self.old self.new (answer_of result)

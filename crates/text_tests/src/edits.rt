@@ -1,4 +1,4 @@
-//! Edits of stores as data, the numbers that choose random ones, and what makes an edit where its steps fit.
+//! Edits of stores as data, and what makes an edit where its steps fit.
 
 ghost use Rattle.std.specs.Prelude.{◌≡◌, ◌<◌, true, length, IfSome};
 ghost use Rattle.text_model.specs.Steps.{length_after, FitsIn, StepFitsIn};
@@ -9,9 +9,6 @@ use text_model::{Edit, Gravity, MarkNo, Place, Step, StepList, TagSet, TagSlot, 
 
 /// The slots that the tests use: at both ends of the words of a set.
 pub static SLOTS: [TagSlot; 4] = [TagSlot(0), TagSlot(63), TagSlot(64), TagSlot(1023)];
-
-/// How many marks the tests use.
-const MARKS: usize = 5;
 
 /// A step as the tests keep it.
 #[derive(Clone, Copy)]
@@ -123,98 +120,4 @@ pub fn store_of<S: TextStore>(
     let is_made = make(&mut store, &edit_of(alloc, steps)?)?;
     assert!(rt; is_made);
     Ok(store)
-}
-
-// ---- random steps
-
-/// Texts of no newline to three, with characters of one byte to four.
-static TEXTS: [&str; 8] = ["", "a", "\n", "xyz", "é\n", "€b\n𐍈\n", "ü\n\nab\n𐍈", "1\n2"];
-
-/// Slots that a text is inserted with.
-static SETS: [&[u16]; 4] = [&[], &[0], &[63, 64], &[0, 63, 64, 1023]];
-
-/// Numbers that look random.
-#[derive(Drop)]
-pub struct Numbers {
-    state: u64,
-}
-
-impl Numbers {
-    pub fn new() -> Numbers {
-        Numbers { state: 1 }
-    }
-
-    /// A number below another.
-    pub fn below(&mut self, end: usize) -> usize
-        requires { 0 < end }
-        ensures { result < end }
-    {
-        self.state = self
-            .state
-            .wrapping_mul(6_364_136_223_846_793_005)
-            .wrapping_add(1_442_695_040_888_963_407);
-        (self.state >> 33) as usize % end
-    }
-
-    fn slot(&mut self) -> TagSlot {
-        SLOTS[self.below(4)]
-    }
-
-    fn mark(&mut self) -> u16 {
-        self.below(MARKS) as u16
-    }
-
-    fn gravity(&mut self) -> Gravity {
-        match self.below(2) {
-            0 => Gravity::Left,
-            _ => Gravity::Right,
-        }
-    }
-
-    /// An offset before a character, the last one more often.
-    fn offset(&mut self, len: usize) -> usize
-        requires { 0 < len }
-        ensures { result < len }
-    {
-        match self.below(4) {
-            0 => len - 1,
-            _ => self.below(len),
-        }
-    }
-
-    /// A step that fits a text of `len` characters, over at most 24 of them.
-    fn step(&mut self, len: usize) -> PlainStep
-        requires some { 0 < len }
-        requires few { len < 1000000 }
-    {
-        let from = self.offset(len);
-        let to = from + self.below((len - from).min(24).max(1));
-        match self.below(9) {
-            0 => PlainStep::Remove(from, to),
-            1 | 2 | 3 => PlainStep::Insert(from, TEXTS[self.below(8)], SETS[self.below(4)]),
-            4 => PlainStep::SetTag(from, to + self.below(2), self.slot(), self.below(2) == 0),
-            5 => PlainStep::ClearSlot(self.slot()),
-            6 => PlainStep::ClearTags(from),
-            7 => PlainStep::TakeMark(self.mark()),
-            _ => PlainStep::PutMark(self.mark(), to + self.below(2), self.gravity()),
-        }
-    }
-}
-
-/// An edit of one step to four, which fit a text of `len` characters.
-pub fn random_edit(
-    rt: &impl Abort,
-    alloc: Global,
-    numbers: &mut Numbers,
-    len: usize,
-) -> Result<Edit, AllocError> {
-    let mut steps = StepList::new(alloc);
-    let mut len = len;
-    for _ in 0..1 + numbers.below(4) {
-        assert!(rt; 0 < len && len < 1_000_000);
-        let step = step_of(alloc, numbers.step(len))?;
-        len = length_after(len, &step).unwrap_or(0);
-        steps.push(step)?;
-    }
-    Ok(Edit { steps })
 }

@@ -20,8 +20,6 @@ mod nodes;
 #[cfg(test)]
 mod queries;
 #[cfg(test)]
-mod random_edits;
-#[cfg(test)]
 mod script_pieces;
 #[cfg(test)]
 mod stores;

@@ -39,30 +39,6 @@ pub enum Query {
     MarksAt(usize),
 }
 
-/// All queries.
-pub static QUERIES: [Query; 20] = [
-    Query::Size,
-    Query::Character,
-    Query::Line,
-    Query::Bounds,
-    Query::LineAt,
-    Query::LineEnd,
-    Query::Run,
-    Query::Tags,
-    Query::HasTag(0),
-    Query::HasTag(1),
-    Query::HasTag(2),
-    Query::HasTag(3),
-    Query::Change(0),
-    Query::Change(1),
-    Query::Change(2),
-    Query::Change(3),
-    Query::Mark,
-    Query::MarksNear,
-    Query::MarksAt(0),
-    Query::MarksAt(2),
-];
-
 /// A run ends at a newline, and at an `n`.
 struct RunTest;
 
