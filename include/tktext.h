@@ -101,7 +101,8 @@ int32_t tktext_call_told(tktext *handle, const uint8_t *bytes, size_t size, cons
    tktext_report_drop; what holds of a handle holds of it too.  It has three lists:
    - Changes of the text: at an offset, `removed` characters were deleted and others were inserted in their place.  Each
      is a change of the text that those before it leave.  Applied in order to the old characters they give the new ones.
-     None is a no-op.  Which changes lead from the old text to the new one isn't specified.
+     They are exactly what the command does: characters that stay are neither deleted nor inserted again, the last
+     position comes first, and adjacent changes are one, as a replacement is.
    - Changes of tags: a tag was added to a range of characters of which none had it, or removed from one of which each
      had it.  Applied in order after the changes of the text, whose new characters have no tag yet, they give the new
      characters with their tags.

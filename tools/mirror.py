@@ -137,9 +137,11 @@ class Watch:
     def check_changes(self, followed, changes):
         followed.take_changes(changes)
         text = followed.mirror.string
+        if any(after.at + after.removed >= before.at for before, after in zip(changes, changes[1:])):
+            self.faults.append(f"{changes} don't have the last position first, or adjacent ones aren't one")
         for change in changes:
             end = change.at + change.removed
-            if end > len(text) or text[change.at:end] == change.inserted:
+            if end > len(text) or not (change.removed or change.inserted):
                 self.faults.append(f"{change} is no change of {text!r}")
             new = change.made_in(text)
             ends = (spot_in(text, change.at), spot_in(text, end), spot_in(new, change.at + len(change.inserted)))

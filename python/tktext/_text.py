@@ -843,10 +843,11 @@ class Text(_core.Widget):
         """Calls a function after each command that changes the text, by whichever peer, with a list of `Change`s.
 
         Each refers to the text that those before it produce, the last newline included; applied in order to the old
-        text they produce the new one.  Each command is reported once, in order, to the functions set at that time,
-        whatever threads, signal handlers and finalizers do.  A report may come after further commands: those that a
-        function or another thread ran in the meantime are reported later.  An exception in the function is printed.
-        Returns a function that ends the reports.
+        text they produce the new one.  They are exactly what the command does: the last position comes first, and
+        adjacent changes are one, as a replacement is.  Each command is reported once, in order, to the functions set at
+        that time, whatever threads, signal handlers and finalizers do.  A report may come after further commands: those
+        that a function or another thread ran in the meantime are reported later.  An exception in the function is
+        printed.  Returns a function that ends the reports.
 
         >>> text = Text()
         >>> end = text.on_change(print)

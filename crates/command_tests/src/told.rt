@@ -4,7 +4,7 @@ ghost use Rattle.std.specs.Prelude.{◌≤◌, ℕ, IfOk};
 ghost use Rattle.edit_ops.specs.Told.{AreHunks};
 
 use crate::scenes::store_of;
-use edit_ops::{Hunk, Span, Spot, TextChange, push_removal, push_text, take_spans, tell};
+use edit_ops::{Hunk, Span, Spot, TextChange, push_replacement, take_spans, tell};
 use std::alloc::{AllocError, Global};
 use std::process::Abort;
 use std::test::Fail;
@@ -42,10 +42,7 @@ static REPLACED: [Replaced; 4] = [
         from: 1,
         to: 2,
         text: "😀é",
-        told: &[
-            (1, 1, "", (1, 1, 1, 1), (1, 2, 3, 2), (1, 1, 1, 1)),
-            (1, 0, "😀é", (1, 1, 1, 1), (1, 1, 1, 1), (1, 3, 7, 4)),
-        ],
+        told: &[(1, 1, "😀é", (1, 1, 1, 1), (1, 2, 3, 2), (1, 3, 7, 4))],
     },
     Replaced {
         from: 2,
@@ -68,14 +65,14 @@ fn is_told(change: &TextChange, wanted: &Change) -> bool {
         && place_of(change.new_end) == wanted.5
 }
 
-// The hunks that insert a text before what they delete.
+// The hunk that replaces the characters from one offset to another by a text, unless it does nothing.
 fn replacing(alloc: Global, from: usize, to: usize, text: &str) -> Result<Vec<Hunk>, AllocError>
     requires { from ≤ to }
     ensures { IfOk result (λ hunks. (len : ℕ) → to ≤ len → AreHunks 0 len hunks.items) }
 {
     let mut hunks = Vec::new(alloc);
-    push_text(&mut hunks, from, Text::new(String::from_str(alloc, text)?))?;
-    push_removal(alloc, &mut hunks, from, to)?;
+    let text = Text::new(String::from_str(alloc, text)?);
+    push_replacement(&mut hunks, from, to, text)?;
     Ok(hunks)
 }
 

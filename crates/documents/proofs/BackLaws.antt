@@ -3,7 +3,7 @@ use Rattle.documents.proofs.Common.{◌≡◌, ◌+◌, ◌++◌, true, false, n
 use Rattle.documents.proofs.Common.{if◌then◌else◌, Action, replayed, replays, back-cons, Document, without_cells}
 use Rattle.documents.proofs.Common.{action_again, action_back, group_again, group_back, text_back, Option, None, Some}
 use Rattle.documents.proofs.Common.{Empty, Widget, next_undo, next_redo, edit_undo, edit_redo, undo_found, redo_found}
-use Rattle.documents.proofs.Common.{undone, redone, is_idle, answered}
+use Rattle.documents.proofs.Common.{undone, redone, is_idle, answered, edited}
 
 -- the actions of a group that are reverted, the last first
 again-append : (actions others : List Action) (document : Document)
@@ -47,17 +47,17 @@ redo-as document widget found on is =
 -- by a widget that isn't idle
 pub undo-done : (document : Document) (widget : Widget) (group : List Action) → document.undo ≡ true →
     next_undo document.history ≡ Some group → is_idle document widget ≡ false
-    → edit_undo document widget ≡ answered (undone widget group document) Empty
+    → edit_undo document widget ≡ edited (undone widget group document) (replays true group)
 undo-done document widget group on is active =
     undo-as document widget (Some group) on is
-    ∙ ap (λ b. answered (if b then document else undone widget group document) Empty) active
+    ∙ ap (λ b. if b then answered document Empty else edited (undone widget group document) (replays true group)) active
 
 pub redo-done : (document : Document) (widget : Widget) (group : List Action) → document.undo ≡ true →
     next_redo document.history ≡ Some group → is_idle document widget ≡ false
-    → edit_redo document widget ≡ answered (redone widget group document) Empty
+    → edit_redo document widget ≡ edited (redone widget group document) (replays false group)
 redo-done document widget group on is active =
     redo-as document widget (Some group) on is
-    ∙ ap (λ b. answered (if b then document else redone widget group document) Empty) active
+    ∙ ap (λ b. if b then answered document Empty else edited (redone widget group document) (replays false group)) active
 
 -- what holds of the document, and of it with the last group undone, holds after the command
 pub undo-carried : (P : Document → Type 0) (document : Document) (widget : Widget) → P document →
@@ -73,8 +73,11 @@ undo-carried P document widget same done =
     by : (found : Option (List Action)) → next_undo document.history ≡ found →
         P (undo_found document widget found).document
     by None is = same
-    by (Some group) is = elim (is_idle document widget) as (λ b. P (if b then document
-        else undone widget group document)) [ true ↦ same | false ↦ done group is ]
+    by (Some group) is = elim (is_idle document widget) as (λ b. P (if b then answered document Empty
+        else edited (undone widget group document) (replays true group)).document) [
+          | true ↦ same
+          | false ↦ done group is
+        ]
 
 pub redo-carried : (P : Document → Type 0) (document : Document) (widget : Widget) → P document →
     ((group : List Action) → next_redo document.history ≡ Some group → P (redone widget group document))
@@ -89,5 +92,8 @@ redo-carried P document widget same done =
     by : (found : Option (List Action)) → next_redo document.history ≡ found →
         P (redo_found document widget found).document
     by None is = same
-    by (Some group) is = elim (is_idle document widget) as (λ b. P (if b then document
-        else redone widget group document)) [ true ↦ same | false ↦ done group is ]
+    by (Some group) is = elim (is_idle document widget) as (λ b. P (if b then answered document Empty
+        else edited (redone widget group document) (replays false group)).document) [
+          | true ↦ same
+          | false ↦ done group is
+        ]

@@ -2,7 +2,7 @@
 use Rattle.documents.proofs.Common.{◌≡◌, ◌≢◌, ℕ, ◌+◌, ◌≤◌, Err, Ok, length, take, refl, sym, ap, ap₂, subst, ◌∙◌, arith}
 use Rattle.documents.proofs.Common.{Tags, LimitTable, FitsText, Answer, Empty, Fault, Memory, IsFront, Document, Parts}
 use Rattle.documents.proofs.Common.{document_of, IsSound, Stands, Change, Does, answered, refused, IsWellFormedDocument}
-use Rattle.documents.proofs.Common.{window_names, Result}
+use Rattle.documents.proofs.Common.{window_names, Result, Action, List, [], edited}
 use Rattle.documents.proofs.PartsLaws.{marks-kept, tags-kept}
 use Rattle.documents.proofs.WellFormedLaws.{IsWellFormedDocument-kept, fits-kept, windows-kept}
 use Rattle.name_list.specs.Names.{names_of}
@@ -48,11 +48,11 @@ table-back old new back front here is made =
 
 -- ---- what is answered
 
-pub does-answered : (limits : LimitTable) (old new made : Document) (change : Change) → new ≡ made →
-    change ≡ answered made Empty
+pub does-edited : (limits : LimitTable) (old new made : Document) (edits : List Action) (change : Change) → new ≡ made →
+    change ≡ edited made edits
     → (IsWellFormedDocument limits old → IsWellFormedDocument limits new) → window_names new ≡ window_names old →
     Does limits old new (Ok Empty) change
-does-answered limits old new made change is same formed windows = record {
+does-edited limits old new made edits change is same formed windows = record {
   reply = λ _. ap (λ (c : Change). c.reply) (sym same);
   document = λ _. is ∙ ap (λ (c : Change). c.document) (sym same);
   refused = tt;
@@ -60,16 +60,24 @@ does-answered limits old new made change is same formed windows = record {
   windows = windows;
 }
 
+pub does-answered : (limits : LimitTable) (old new made : Document) (change : Change) → new ≡ made →
+    change ≡ answered made Empty
+    → (IsWellFormedDocument limits old → IsWellFormedDocument limits new) → window_names new ≡ window_names old →
+    Does limits old new (Ok Empty) change
+does-answered limits old new made change is same formed windows =
+    does-edited limits old new made [] change is same formed windows
+
 -- a document that goes on as it is
 pub does-nothing : (limits : LimitTable) (document : Document) (change : Change) → change ≡ answered document Empty →
     Does limits document document (Ok Empty) change
 does-nothing limits document change same =
     does-answered limits document document document change refl same (λ formed. formed) refl
 
--- what has to be shown of the parts after a change that keeps the widgets
-pub record IsChanged (limits : LimitTable) (old new : Parts) (document : Document) (change : Change) : Type 0 where
+-- what has to be shown of the parts after a change by edits that keeps the widgets
+pub record IsEdited (limits : LimitTable) (old new : Parts) (document : Document) (edits : List Action)
+    (change : Change) : Type 0 where
   pub sound : IsSound new
-  pub is : change ≡ answered (document_of new) Empty
+  pub is : change ≡ edited (document_of new) edits
   pub fits : FitsText limits.chars (model.characters old.content.cells) old.journal.log.history →
       FitsText limits.chars (model.characters new.content.cells) new.journal.log.history
   pub tags : length old.tags.tags ≤ limits.tags + 1 → length new.tags.tags ≤ limits.tags + 1
@@ -80,13 +88,13 @@ pub record IsChanged (limits : LimitTable) (old new : Parts) (document : Documen
 pub some_limits : LimitTable
 some_limits = record { chars = 1; tags = 0; marks = 0; widgets = 0; reads = 0 }
 
-pub does-changed : {limits : LimitTable} {old new : Parts} {document : Document} {change : Change} →
-    Stands old document → IsChanged limits old new document change
+pub does-changed : {limits : LimitTable} {old new : Parts} {document : Document} {edits : List Action}
+    {change : Change} → Stands old document → IsEdited limits old new document edits change
     → Leaves limits new document (Ok Empty) change
-does-changed {limits} {old} {new} {document} {change} stands changed =
+does-changed {limits} {old} {new} {document} {edits} {change} stands changed =
     record {
       sound = changed.sound;
-      does = does-answered limits document (document_of new) (document_of new) change refl changed.is
+      does = does-edited limits document (document_of new) (document_of new) edits change refl changed.is
           (λ formed.
           let few = formed.tag_count in
           let many = formed.mark_count in

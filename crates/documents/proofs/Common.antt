@@ -30,8 +30,8 @@ pub use Rattle.command_effects.specs.declared.answers.Fault.TheVariants.{Nothing
 pub use Rattle.command_effects.specs.declared.answers.Fault.TheVariants.{TooManyTags}
 pub use Rattle.command_effects.specs.declared.settings.DocumentSettings.{DocumentSettings}
 pub use Rattle.command_effects.specs.declared.settings.Settings.{Settings}
-pub use Rattle.documents.specs.Deletions.{delete_places, delete_spans, deleted_runs, last_bare, replace_span, replaced}
-pub use Rattle.documents.specs.Deletions.{with_clipped}
+pub use Rattle.documents.specs.Deletions.{delete_places, delete_spans, deleted_runs, deletions, last_bare, replace_span}
+pub use Rattle.documents.specs.Deletions.{replaced, with_clipped}
 pub use Rattle.documents.specs.Documents.{Document, Journal, KeyedCell, Parts, SharedMark, Widget, anchors_at}
 pub use Rattle.documents.specs.Documents.{characters, document_of, mark_of, no_widget, placed, whole, widget_at}
 pub use Rattle.documents.specs.Documents.{widget_of}
@@ -54,7 +54,7 @@ pub use Rattle.documents.specs.MarksTold.{AreGathered, ForetellsMarks, IsSharedN
 pub use Rattle.documents.specs.MarksTold.{offset_seen}
 pub use Rattle.documents.specs.Names.{key_of, mark_number, mark_place, meanings, place_of, tag_flags, tag_number}
 pub use Rattle.documents.specs.Options.{AreLines, IsLine, anchor_at, settings_of, widget_set, with_settings}
-pub use Rattle.documents.specs.Promise.{Change, Does, Gives, answered, change_with, refused, unless_idle}
+pub use Rattle.documents.specs.Promise.{Change, Does, Gives, answered, change_with, edited, refused, unless_idle}
 pub use Rattle.documents.specs.Ranges.{spans_shown}
 pub use Rattle.documents.specs.Seats.{IsLonger}
 pub use Rattle.documents.specs.Tags.{add_spans, key_stays, known_or, lowered, raised, remove_spans, reordered}
@@ -63,7 +63,7 @@ pub use Rattle.documents.specs.TagsGone.{AreGone, TellsGone}
 pub use Rattle.documents.specs.TagsTold.{AreDistinct, AreKeysOf, IsTagChange, TellsPairs, TellsSpan, TellsSpans}
 pub use Rattle.documents.specs.TagsTold.{TellsTags, after_changes, flags_of, key_set, run_changes, slot_changes}
 pub use Rattle.documents.specs.TagsTold.{untagged}
-pub use Rattle.documents.specs.Texts.{insert_at, insertion_offset, keyed_text, tags_with, within_limits}
+pub use Rattle.documents.specs.Texts.{insert_at, insertion_offset, joined_text, keyed_text, tags_with, within_limits}
 pub use Rattle.documents.specs.Told.{Foretells, TellsCells}
 pub use Rattle.documents.specs.Views.{is_idle, shown, shown_flags, view_end, view_start}
 pub use Rattle.documents.specs.WellFormed.{HasItsKeys, IsPlaced, IsWellFormedDocument, belongs, window_names}
@@ -72,8 +72,8 @@ pub use Rattle.documents.specs.Widgets.{without_selections}
 pub use Rattle.documents.specs.declared.tag_lists.TagChange.{TagChange}
 pub use Rattle.documents.specs.declared.told.EditTold.{EditTold}
 pub use Rattle.edit_ops.proofs.AnchoredLaws.{all-moved, all-removed, anchored-stand}
-pub use Rattle.edit_ops.proofs.HunkLaws.{inserting-stand, joined, map-patched, put-behind, put_all, putting-append}
-pub use Rattle.edit_ops.proofs.HunkLaws.{removed_all, replacing-is, replacing-stand, taking-is, taking-stand}
+pub use Rattle.edit_ops.proofs.HunkLaws.{inserting-of, joined, map-patched, put-behind, put_all, removed_all}
+pub use Rattle.edit_ops.proofs.HunkLaws.{replacing-all, replacing-of, taking-is, taking-of, taking-stand}
 pub use Rattle.edit_ops.proofs.KeepLaws.{deleted-kept, deleted-runs, replaced-kept, texts-kept}
 pub use Rattle.edit_ops.proofs.ReplayLaws.{back-end, redo-fits-replay, undo-fits-replay}
 pub use Rattle.edit_ops.proofs.ReversalLaws.{back-cons, back-reverted, back-undone, group-redone-text}
@@ -90,7 +90,8 @@ pub use Rattle.edit_ops.specs.Reversals.{redo_end, taken_back, undo_end}
 pub use Rattle.edit_ops.specs.SlotRuns.{AreBareRuns, IsBareRun, bare_cells, slotted, with_slots}
 pub use Rattle.edit_ops.specs.States.{Log, State, log_noted, log_of, state_of}
 pub use Rattle.edit_ops.specs.Tagging.{SpanFits, cell_without, cleared, tagged, without}
-pub use Rattle.edit_ops.specs.Told.{AreHunks, Tells, hunk_changes, patched, patched_by, putting, taking, taking_out}
+pub use Rattle.edit_ops.specs.Told.{AreExact, AreHunks, AreHunksOf, Tells, deletion, hunk_changes, insertion, patched}
+pub use Rattle.edit_ops.specs.Told.{patched_by, replacing, taking}
 pub use Rattle.edit_ops.specs.declared.anchors.Anchors.{Anchors}
 pub use Rattle.edit_ops.specs.declared.slot_runs.SlotRun.{SlotRun}
 pub use Rattle.edit_ops.specs.declared.slotted_texts.SlottedText.{SlottedText}
@@ -124,7 +125,7 @@ pub use Rattle.std.proofs.lemmas.Option.{get_or_from_slice_get, none-some, optio
 pub use Rattle.std.proofs.lemmas.Option.{slice_get-get_or, slice_get-map}
 pub use Rattle.std.proofs.lemmas.Result.{IfOk-weaker, on_ok_weaker}
 pub use Rattle.std.proofs.lemmas.Slice.Eq.{bytes_eq-Decides}
-pub use Rattle.std.proofs.lemmas.Str.{IsUtf8-string_bytes, chars-nil, chars_from_encodes}
+pub use Rattle.std.proofs.lemmas.Str.{IsUtf8-string_bytes, chars-append, chars-nil, chars_from_encodes}
 pub use Rattle.std.specs.BTreeMap.{is_at}
 pub use Rattle.std.specs.BTreeSet.{IsUnchanged, contains, contains_text}
 pub use Rattle.std.specs.Bool.{Decides, OnFalse}
@@ -133,7 +134,7 @@ pub use Rattle.std.specs.Cmp.{Equal-is, IsTotalOrder, both_ways, nat_cmp_total, 
 pub use Rattle.std.specs.List.{All, AllByRecursion, cons_option, fold, list_any, position_from}
 pub use Rattle.std.specs.Option.{option_or}
 pub use Rattle.std.specs.Ordering.{eq_by_cmp, is_eq, nat_cmp}
-pub use Rattle.std.specs.Prelude.{IsUtf8, codes, is_ok, unwrap_or}
+pub use Rattle.std.specs.Prelude.{IsUtf8, codes, flat_map, is_ok, unwrap_or}
 pub use Rattle.std.specs.declared.string.String.{String}
 pub use Rattle.tag_table.specs.Priority.{next_to}
 pub use Rattle.tag_table.specs.Tags.{AreTags, Tag, Tags, first_slot, is_named, names_of, sel, slot_of, slots_of}

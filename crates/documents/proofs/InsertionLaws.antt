@@ -4,9 +4,9 @@ use Rattle.documents.proofs.Common.{ap, ap₂, subst, ◌∙◌, arith, IsScalar
 use Rattle.documents.proofs.Common.{Tags, names_of, AreLimits, LimitTable, Insert, inserted_texts, State, SlottedText}
 use Rattle.documents.proofs.Common.{texts-kept, Empty, Fault, TextTooLong, TooManyTags, excess, Pair, all_names, total}
 use Rattle.documents.proofs.Common.{with_names, recording_of, IsFront, piece_of, is_among, Document, Parts, Widget}
-use Rattle.documents.proofs.Common.{document_of, widget_at, with_texts, Stands, Change, answered, refused, insert_at}
-use Rattle.documents.proofs.Common.{keyed_text, tags_with, within_limits, Anchors, Content, Log, state_of, take, nat_lt}
-use Rattle.documents.proofs.Common.{if◌then◌else◌}
+use Rattle.documents.proofs.Common.{document_of, widget_at, with_texts, Stands, Change, refused, insert_at, keyed_text}
+use Rattle.documents.proofs.Common.{tags_with, within_limits, Anchors, Content, Log, state_of, take, nat_lt}
+use Rattle.documents.proofs.Common.{if◌then◌else◌, edited, Action, [], ◌∷◌, insertion, joined_text}
 use Rattle.documents.proofs.ChangeLaws.{Leaves, does-changed, table-back}
 use Rattle.documents.proofs.KeyedLaws.{keyed-more}
 use Rattle.documents.proofs.KnownLaws.{IsKnownPiece, known-front}
@@ -202,6 +202,7 @@ leaves-put {limits} {old} {tags} {state} {document} {place} {slot} {at} {pairs} 
     let all = stands-texts (with_tags tags old) (record document { tags = tags_with document pairs }) Insert at pieces
     set.stands inside (omega (arith, short, counted, bounds)) set.known in
     let result : Document = texts_made document widget at pairs in
+    let edits : List Action = insertion at (joined_text pairs) ∷ [] in
     let all_is : document_of (with_state (with_tags tags old) made) ≡ result = all.is
     ∙ ap (λ texts. with_texts Insert at texts (record document { tags = tags_with document pairs })) set.texts in
     let within_both : IsWithin limits (length (tags_with document pairs)) (insertion_size document pairs) =
@@ -214,7 +215,7 @@ leaves-put {limits} {old} {tags} {state} {document} {place} {slot} {at} {pairs} 
     (does-changed stands (record {
       sound = all.sound;
       is = limits-made limits document (length (tags_with document pairs)) (insertion_size document pairs)
-          (answered result Empty) within_both ∙ ap (λ d. answered d Empty) (sym all_is);
+          (edited result edits) within_both ∙ ap (λ d. edited d edits) (sym all_is);
       fits = λ fits. (texts-kept limits.chars at recording Insert pieces (state_in old)
           (record { fits = fits; groups = stands.sound.orderly.groups; undone = stands.sound.orderly.undone }) inside
           (omega (arith, short, counted))).fits;
@@ -232,5 +233,5 @@ put-left {old} {document} {fault} limits widget at pairs stands is =
     let names = names-before old document stands in
     let long = cells-kept old document stands.is in
     limits-refused limits document (length (tags_with document pairs)) (insertion_size document pairs)
-    (answered (texts_made document widget at pairs) Empty) fault
+    (edited (texts_made document widget at pairs) (insertion at (joined_text pairs) ∷ [])) fault
     (ap₂ (λ ns n. excess limits (length (with_names ns (all_names pairs))) (n + total pairs)) (sym names) long ∙ is)

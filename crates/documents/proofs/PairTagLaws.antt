@@ -7,12 +7,13 @@ use Rattle.documents.proofs.Common.{sum_by-cons, get_or_from_slice_get, none-som
 use Rattle.documents.proofs.Common.{Slots, slot_sets, slots_left_of, Cell, get_or-inserted_behind}
 use Rattle.documents.proofs.Common.{get_or-inserted_within, get_or-removed_before, get_or-removed_behind}
 use Rattle.documents.proofs.Common.{length-inserted, length-removed, EditKind, Named, AreTags, Tags, known_tags}
-use Rattle.documents.proofs.Common.{slots_or, putting, taking_out, joined, put-behind, put_all, replacing-is, Pair}
-use Rattle.documents.proofs.Common.{total, slots_named, with_found, Document, KeyedCell, Widget, KeyedText, common_keys}
-use Rattle.documents.proofs.Common.{keys_between, keys_or, with_action, with_cells, with_text, with_texts, AreSeats}
-use Rattle.documents.proofs.Common.{Key, Keys, key_cmp, key_named, key_pairs, keyed, keys_named, keys_of, AreKeysOf}
-use Rattle.documents.proofs.Common.{TellsPairs, TellsTags, run_changes, untagged, keyed_text, TagChange, length-append}
-use Rattle.documents.proofs.Common.{if◌then◌else◌, slice_get}
+use Rattle.documents.proofs.Common.{slots_or, replacing, joined, put-behind, put_all, replacing-all, Pair, joined_text}
+use Rattle.documents.proofs.Common.{flat_map, map-append, patched_by, total, slots_named, with_found, Document}
+use Rattle.documents.proofs.Common.{KeyedCell, Widget, KeyedText, common_keys, keys_between, keys_or, with_action}
+use Rattle.documents.proofs.Common.{with_cells, with_text, with_texts, AreSeats, Key, Keys, key_cmp, key_named}
+use Rattle.documents.proofs.Common.{key_pairs, keyed, keys_named, keys_of, AreKeysOf, TellsPairs, TellsTags}
+use Rattle.documents.proofs.Common.{run_changes, untagged, keyed_text, TagChange, length-append, if◌then◌else◌}
+use Rattle.documents.proofs.Common.{slice_get}
 use Rattle.documents.proofs.BridgeLaws.{key_tied, keys_of-empty, keys_of-has, keys_of-intersection, keys_of-set_slot}
 use Rattle.documents.proofs.BridgeLaws.{keys_same}
 use Rattle.documents.proofs.KeyLaws.{key_cmp_total}
@@ -478,6 +479,11 @@ module _ (seats : List Named) (table : Tags) (seated : AreSeats seats) (sound : 
         (put_all untagged from (texts_of pairs) base)) (sym none) refl;
   }
 
+-- the texts of pairs are joined
+all-joined : (pairs : List Pair) → joined_text pairs ≡ flat_map (λ text. text) (texts_of pairs)
+all-joined [] = refl
+all-joined (pair ∷ pairs) = ap (λ text. pair.text ++ text) (all-joined pairs)
+
 -- behind the last text
 pub pairs-told : (ps : List (ℕ × Key)) (widget : Widget) (from to : ℕ) (cells : List KeyedCell) (right left : Slots)
     (all done rest : List Pair) (at : ℕ) (told : List TagChange) → from ≤ to → to < length cells → rest ≡ [] → done ≡ all
@@ -492,7 +498,8 @@ pairs-told ps widget from to cells right left all done rest at told ordered insi
     (subst (λ pairs. TellsTags told (put_all untagged from texts base)
     (put_all untagged at (texts_of rest) (with_pairs widget.name from pairs base))) whole so_far.tells) in
     subst (λ old. TellsTags told old (with_texts kind from (map (keyed_text widget) all) document).cells)
-    (sym (replacing-is untagged from to texts (putting from texts ++ taking_out from to) cells
-    (λ text. length-map text _) ordered (omega (arith, inside)) refl))
+    (sym (ap (λ text. patched_by untagged 0 (replacing from to text) cells) (all-joined all)
+    ∙ replacing-all untagged from to texts cells (λ text. length-map text _) (refl, λ text more. map-append _ text more)
+    ordered (omega (arith, inside))))
     (subst (TellsTags told (put_all untagged from texts base))
     (sym (cells-texts kind from widget all document ∙ ap (with_pairs widget.name from all) same)) told_made)

@@ -6,8 +6,8 @@ use Rattle.documents.proofs.Common.{without_slots, characters-without_slots, len
 use Rattle.documents.proofs.Common.{AreAnchored, delete_set, deleted, in_spans, removed_spans, runs_below, removed_span}
 use Rattle.documents.proofs.Common.{State, SpanFits, Span, deleted-kept, deleted-runs, Empty, recording_of}
 use Rattle.documents.proofs.Common.{delete_places, delete_spans, deleted_runs, last_bare, Document, Parts, Widget}
-use Rattle.documents.proofs.Common.{document_of, widget_at, with_bare, without_spans, HasKnownSlots, Stands, answered}
-use Rattle.documents.proofs.Common.{spans_shown, is_idle, slice_range, if◌then◌else◌}
+use Rattle.documents.proofs.Common.{document_of, widget_at, with_bare, without_spans, HasKnownSlots, Stands}
+use Rattle.documents.proofs.Common.{spans_shown, is_idle, slice_range, if◌then◌else◌, edited, deletions}
 use Rattle.edit_ops.specs.Deletions.{AreApart}
 use Rattle.documents.proofs.ChangeLaws.{Leaves, does-changed}
 use Rattle.documents.proofs.KeyedLaws.{keyed-bare}
@@ -141,7 +141,7 @@ leaves-deleted limits old state document place slot spans stands sits shows fit 
     (sym is)
     (does-changed stands (record {
       sound = rest.sound;
-      is = ap (λ d. answered d Empty) (sym all_is);
+      is = ap (λ d. edited d (deletions document (deleted_runs document widget spans))) (sym all_is);
       fits = λ fits. (deleted-kept limits.chars start end recording spans (state_in old)
           (record { fits = fits; groups = stands.sound.orderly.groups; undone = stands.sound.orderly.undone }) shows
           within (to-end end spans fit)).fits;

@@ -6,9 +6,9 @@ use Rattle.documents.proofs.Common.{inserted_texts, clipped, removed_span, repla
 use Rattle.documents.proofs.Common.{replaced-kept, Answer, Empty, Fault, Memory, excess, length_replaced, Pair}
 use Rattle.documents.proofs.Common.{all_names, total, with_names, recording_of, piece_of, replace_span, replaced}
 use Rattle.documents.proofs.Common.{with_clipped, Document, Parts, Widget, document_of, mark_of, widget_at, with_texts}
-use Rattle.documents.proofs.Common.{without_span, Stands, with_insert, Change, answered, false, refused}
-use Rattle.documents.proofs.Common.{insertion_offset, is_idle, tags_with, Content, None, Option, Result, Some}
-use Rattle.documents.proofs.Common.{option_map}
+use Rattle.documents.proofs.Common.{without_span, Stands, with_insert, Change, false, refused, insertion_offset}
+use Rattle.documents.proofs.Common.{is_idle, tags_with, Content, None, Option, Result, Some, option_map, edited, Action}
+use Rattle.documents.proofs.Common.{[], ◌∷◌, insertion, deletion, joined_text, characters}
 use Rattle.edit_ops.specs.Removals.{with_mark}
 use Rattle.edit_ops.proofs.ReplaceLaws.{found-within}
 use Rattle.documents.proofs.ChangeLaws.{Leaves, does-changed}
@@ -171,6 +171,8 @@ leaves-replaced {limits} {old} {tags} {state} {document} {place} {slot} {start} 
     (omega (arith, short, counted, bounds)) set.known in
     let result : Document = replaced document widget (insertion_offset document widget from)
     (insertion_offset document widget to) pairs in
+    let edits : List Action = deletion (characters document.cells) (insertion_offset document widget from)
+    (insertion_offset document widget to) ∷ insertion (insertion_offset document widget from) (joined_text pairs) ∷ [] in
     let texts = set.texts in
     let all_is : document_of (with_state (with_tags tags old) made) ≡ result =
     all.is ∙ λ i. with_clipped widget (clipped (begins i) (ends i) (counted i) widget.insert)
@@ -186,8 +188,8 @@ leaves-replaced {limits} {old} {tags} {state} {document} {place} {slot} {start} 
     (replaced_at limits document widget from to pairs)) (sym is)
     (does-changed stands (record {
       sound = all.sound;
-      is = limits-made limits document (length (tags_with document pairs)) size_made (answered result Empty) within_both
-          ∙ ap (λ d. answered d Empty) (sym all_is);
+      is = limits-made limits document (length (tags_with document pairs)) size_made (edited result edits) within_both
+          ∙ ap (λ d. edited d edits) (sym all_is);
       fits = λ fits. (replaced-kept limits.chars (2 * slot) last first second recording pieces (state_in old)
           (record { fits = fits; groups = stands.sound.orderly.groups; undone = stands.sound.orderly.undone }) below
           straight (omega (arith, short, counted))).fits;
@@ -210,7 +212,9 @@ replace-left {old} {document} {place} {fault = fault} limits from to pairs seen 
     let names = ap (λ (d : Document). d.tags) seen.stands.is in
     limits-refused limits document (length (tags_with document pairs))
     (replacement_size document (insertion_offset document widget from) (insertion_offset document widget to) pairs)
-    (answered (replaced document widget (insertion_offset document widget from) (insertion_offset document widget to)
-    pairs) Empty) fault
+    (edited (replaced document widget (insertion_offset document widget from) (insertion_offset document widget to)
+    pairs) (deletion (characters document.cells) (insertion_offset document widget from)
+    (insertion_offset document widget to)
+    ∷ insertion (insertion_offset document widget from) (joined_text pairs) ∷ [])) fault
     ((λ i. excess limits (length (with_names (sym names i) (all_names pairs)))
     (long i - (sym ends i - sym begins i) + total pairs)) ∙ is)

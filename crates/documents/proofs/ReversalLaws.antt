@@ -11,10 +11,10 @@ use Rattle.documents.proofs.Common.{action_redone, group_redone, group_undone, l
 use Rattle.documents.proofs.Common.{redo_end, taken_back, undo_end, Log, State, group-redone-text, group-undone-text}
 use Rattle.documents.proofs.Common.{guarded, redone-kept, redone-text, undone-kept, shared_slots, Empty, recording_of}
 use Rattle.documents.proofs.Common.{with_clipped, Document, Parts, Widget, document_of, widget_at, keys_between}
-use Rattle.documents.proofs.Common.{without_cells, Stands, answered, action_again, edit_redo, edit_undo, group_again}
-use Rattle.documents.proofs.Common.{group_back, redone, text_back, undone, with_end, is_idle, IsWellFormedDocument}
-use Rattle.documents.proofs.Common.{replays, replayed, back-cons, All-append, All-cons, All-nil, option_map, back-end}
-use Rattle.documents.proofs.Common.{back-reverted, back-undone}
+use Rattle.documents.proofs.Common.{without_cells, Stands, action_again, edit_redo, edit_undo, group_again, group_back}
+use Rattle.documents.proofs.Common.{redone, text_back, undone, with_end, is_idle, IsWellFormedDocument, replays}
+use Rattle.documents.proofs.Common.{replayed, back-cons, All-append, All-cons, All-nil, option_map, back-end}
+use Rattle.documents.proofs.Common.{back-reverted, back-undone, edited}
 use Rattle.documents.proofs.BackLaws.{again-back, redo-done, undo-done}
 use Rattle.documents.proofs.ChangeLaws.{Leaves, does-changed}
 use Rattle.documents.proofs.KnownLaws.{known-shared}
@@ -294,7 +294,7 @@ leaves-undone {limits} {old} {state} {document} {place} {slot} {group} can is re
     (does-changed stands (record {
       sound = all.sound;
       is = undo-done document widget group kept_on (ap next_undo (sym histories) ∙ is) can.active
-          ∙ ap (λ d. answered d Empty) (sym all_is);
+          ∙ ap (λ d. edited d (replays true group)) (sym all_is);
       fits = λ _. subst (λ (s : State). FitsText limits.chars (model.characters s.content.cells) s.log.history) made_is
           fitting;
       tags = λ few. few;
@@ -346,7 +346,7 @@ leaves-redone {limits} {old} {state} {document} {place} {slot} {group} can is re
     (does-changed stands (record {
       sound = all.sound;
       is = redo-done document widget group kept_on (ap next_redo (sym histories) ∙ is) can.active
-          ∙ ap (λ d. answered d Empty) (sym all_is);
+          ∙ ap (λ d. edited d (replays false group)) (sym all_is);
       fits = λ _. subst (λ (s : State). FitsText limits.chars (model.characters s.content.cells) s.log.history) made_is
           fitting;
       tags = λ few. few;

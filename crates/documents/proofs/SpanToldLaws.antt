@@ -430,8 +430,12 @@ abbrev pub of_tags : List TagChange → EditTold
 of_tags told = record { changes = []; tags = told }
 
 pub tags-alone : (told : List TagChange) (old new : List KeyedCell) → TellsTags told old new →
-    TellsCells old new (of_tags told)
-tags-alone told old new tells = record { text = told-characters told old new tells; tags = tells }
+    TellsCells [] old new (of_tags told)
+tags-alone told old new tells = record {
+  text = told-characters told old new tells;
+  exact = record { same = λ text long. refl; falling = tt };
+  tags = tells;
+}
 
 pub foretells-added : (limits : LimitTable) (document : Document) (widget : Widget) (name : List ℕ) (places : List ℕ)
     (spans : List Span) (told : List TagChange) → spans ≡ spans_shown document widget places

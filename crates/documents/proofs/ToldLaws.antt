@@ -2,86 +2,89 @@
 use Rattle.documents.proofs.Common.{◌≡◌, ℕ, ◌+◌, ◌-◌, ◌<◌, ◌≤◌, ◌^◌, ◌==◌, ◌&&◌, true, false, List, [], ◌∷◌, Option}
 use Rattle.documents.proofs.Common.{Some, None, map, length, take, drop, get_or, refl, sym, ap, ap₂, ◌∙◌, arith, subst}
 use Rattle.documents.proofs.Common.{append_assoc, ◌++◌, Bool, IsSome, and_parts, eqb-true, false≢true, ltb-false}
-use Rattle.documents.proofs.Common.{ltb-true, drop_more, length-take-le, map-append, take-append-drop, sum_by-cons}
+use Rattle.documents.proofs.Common.{ltb-true, drop_more, length-take-le, take-append-drop, sum_by-cons}
 use Rattle.documents.proofs.Common.{get_or_from_slice_get, option_and_then_some, slot_sets, Cell, AreLimits, LimitTable}
 use Rattle.documents.proofs.Common.{changed, inserted, removed, Place, length-removed, map-map, removed-append_left}
 use Rattle.documents.proofs.Common.{Action, EditKind, put_in, take_out, repeated, repeated_group, next_redo, next_undo}
 use Rattle.documents.proofs.Common.{Named, AreTags, Tags, shared_slots, delete_set, in_spans, runs_below, clipped}
 use Rattle.documents.proofs.Common.{replays, action_redone, group_redone, put_back, redo_end, taken_back, undo_end}
-use Rattle.documents.proofs.Common.{AreBareRuns, bare_cells, slotted, State, AreHunks, Tells, hunk_changes, patched}
-use Rattle.documents.proofs.Common.{patched_by, putting, taking, taking_out, SlotRun, Span, map-patched, putting-append}
-use Rattle.documents.proofs.Common.{removed_all, taking-is, guarded-holds, redone-text, Pair, total, Empty, TextTooLong}
-use Rattle.documents.proofs.Common.{TooManyTags, delete_places, delete_spans, deleted_runs, last_bare, replace_span}
-use Rattle.documents.proofs.Common.{replaced, with_clipped, Document, KeyedCell, Parts, Widget, characters, widget_at}
-use Rattle.documents.proofs.Common.{bare, keys_between, with_action, with_bare, with_texts, without_cells, without_span}
-use Rattle.documents.proofs.Common.{without_spans, action_again, edit_redo, edit_undo, group_again, group_back, redone}
-use Rattle.documents.proofs.Common.{text_back, undone, with_end, AreSeats, Key, key_pairs, keyed, keys_listed, keys_of}
-use Rattle.documents.proofs.Common.{Change, answered, refused, spans_shown, AreKeysOf, TellsPairs, TellsTags}
-use Rattle.documents.proofs.Common.{after_changes, run_changes, slot_changes, untagged, insert_at, keyed_text}
-use Rattle.documents.proofs.Common.{tags_with, within_limits, Foretells, TellsCells, is_idle, view_end, TagChange}
-use Rattle.documents.proofs.Common.{EditTold, append-nil, slice_get, nat_le, nat_lt, slice_range, sum_by, if◌then◌else◌}
-use Rattle.documents.proofs.Common.{◌≢◌, Ok, Err, Memory, Does, is_ok}
+use Rattle.documents.proofs.Common.{AreBareRuns, bare_cells, slotted, State, Tells, hunk_changes, patched, patched_by}
+use Rattle.documents.proofs.Common.{replacing, taking, SlotRun, Span, map-patched, insertion, deletion, removed_all}
+use Rattle.documents.proofs.Common.{taking-is, guarded-holds, redone-text, Pair, total, Empty, TextTooLong, AreExact}
+use Rattle.documents.proofs.Common.{AreHunksOf, inserting-of, replacing-of, taking-of, edited, joined_text, deletions}
+use Rattle.documents.proofs.Common.{length-map, TooManyTags, delete_spans, deleted_runs, last_bare, replace_span}
+use Rattle.documents.proofs.Common.{replaced, with_clipped, Document, KeyedCell, Widget, characters, bare, keys_between}
+use Rattle.documents.proofs.Common.{with_action, with_bare, with_texts, without_cells, without_span, without_spans}
+use Rattle.documents.proofs.Common.{action_again, edit_redo, edit_undo, group_again, group_back, redone, text_back}
+use Rattle.documents.proofs.Common.{undone, with_end, AreSeats, Key, key_pairs, keyed, keys_listed, keys_of, Change}
+use Rattle.documents.proofs.Common.{refused, AreKeysOf, TellsPairs, TellsTags, after_changes, run_changes, slot_changes}
+use Rattle.documents.proofs.Common.{untagged, insert_at, keyed_text, tags_with, within_limits, Foretells, TellsCells}
+use Rattle.documents.proofs.Common.{is_idle, view_end, view_start, TagChange, EditTold, append-nil, slice_get, nat_le}
+use Rattle.documents.proofs.Common.{nat_lt, slice_range, sum_by, if◌then◌else◌, ◌≢◌, Ok, Err, Memory, Does, is_ok}
 use Rattle.text_cursor.proofs.AroundLaws.{length-characters}
 use Rattle.edit_ops.specs.Deletions.{AreApart}
 use Rattle.edit_ops.specs.declared.hunks.Hunk.{Hunk}
-use Rattle.edit_ops.proofs.TellLaws.{hunks-made}
+use Rattle.edit_ops.proofs.TellLaws.{changes-exact, hunks-made}
 use Rattle.documents.proofs.BackLaws.{again-back, redo-done, undo-done}
 use Rattle.documents.proofs.BridgeLaws.{keys_of-empty}
 use Rattle.documents.proofs.KeyListLaws.{listed-none}
 use Rattle.documents.proofs.KeyedLaws.{keyed-inserted, keyed-removed, keyed-shared, keyed_cell}
-use Rattle.documents.proofs.PairTagLaws.{keys-kept, keys_at, no_cell, texts_of}
-use Rattle.documents.proofs.PartsLaws.{cells-kept, characters-kept, length-keyed}
+use Rattle.documents.proofs.PairTagLaws.{keys-kept, keys_at, no_cell}
+use Rattle.documents.proofs.PartsLaws.{length-keyed}
 use Rattle.documents.proofs.TagsToldLaws.{keys-listed, tells-bare, tells-slot-runs, told-characters}
-use Rattle.documents.proofs.ViewLaws.{IsSeen, end-found-is, start-found-is}
 use Rattle.std.specs.FinSet as set
 use Rattle.text_model.specs.Content as model
 use Rattle.undo_stack.specs.declared.actions.EditKind.TheVariants as kind
 
--- the hunks of one pair more
-pub texts-more : (at : ℕ) (front hunks now : List Hunk) (pairs : List Pair) (pair : Pair) (text : List ℕ)
-    → hunks ≡ front ++ putting at (texts_of pairs) → text ≡ pair.text → now ≡ hunks ++ putting at (text ∷ [])
-    → now ≡ front ++ putting at (texts_of (pairs ++ pair ∷ []))
-texts-more at front hunks now pairs pair text so_far same is =
-    is ∙ ap₂ (λ hs t. hs ++ putting at (t ∷ [])) so_far same
-    ∙ append_assoc front (putting at (texts_of pairs)) (putting at (pair.text ∷ []))
-    ∙ ap (λ hs. front ++ hs) (sym (putting-append at (texts_of pairs) (pair.text ∷ []))
-    ∙ ap (putting at) (sym (map-append (λ (pair : Pair). pair.text) pairs (pair ∷ []))))
+-- ---- the texts of pairs, one after the other
+
+pub joined-more : (front : List Pair) (pair : Pair) → joined_text (front ++ pair ∷ []) ≡ joined_text front ++ pair.text
+joined-more [] pair = append-nil pair.text
+joined-more (first ∷ front) pair =
+    ap (λ text. first.text ++ text) (joined-more front pair) ∙ sym (append_assoc first.text (joined_text front) pair.text)
 
 -- ---- what edits make of the cells
 
 -- what is told of a change of the cells
 told-by : (document : Document) (change : Change) (told : EditTold) (cells : List KeyedCell) → change.document.cells ≡ cells
-    → TellsCells document.cells cells told → Foretells document change told
+    → TellsCells change.edits document.cells cells told → Foretells document change told
 told-by document change told cells is tells =
-    λ ok. subst (λ new. TellsCells document.cells new told) (sym is) tells
+    λ ok. subst (λ new. TellsCells change.edits document.cells new told) (sym is) tells
 
 -- hunks of the text, and changes of tags behind these
-pub hunks-tell : (cells new : List KeyedCell) (hunks : List Hunk) (told : EditTold) → AreHunks 0 (length cells) hunks
-    → told.changes ≡ hunk_changes (characters cells) hunks
+pub hunks-tell : (edits : List Action) (cells new : List KeyedCell) (hunks : List Hunk) (told : EditTold)
+    → AreHunksOf edits (length cells) hunks → told.changes ≡ hunk_changes (characters cells) hunks
     → Tells told.changes (characters cells) (patched 0 hunks (characters cells))
-    → TellsTags told.tags (patched_by untagged 0 hunks cells) new → TellsCells cells new told
-hunks-tell cells new hunks told stand are tells tags =
+    → TellsTags told.tags (patched_by untagged 0 hunks cells) new → TellsCells edits cells new told
+hunks-tell edits cells new hunks told of are tells tags =
     let between = patched_by untagged 0 hunks cells in
     let spelled : characters between ≡ patched 0 hunks (characters cells) =
     map-patched (λ (cell : KeyedCell). cell.character) untagged (λ text. text) characters-untagged 0 hunks cells in
     record {
       text = subst (Tells told.changes (characters cells)) (sym (told-characters told.tags between new tags ∙ spelled))
           tells;
+      exact = subst (AreExact edits (length cells)) (sym are)
+          (changes-exact edits (length cells) (characters cells) hunks of);
       tags = subst (λ old. TellsTags told.tags old new)
           (sym (ap (λ changes. after_changes changes cells) are
-          ∙ hunks-made untagged (characters cells) 0 hunks cells stand)) tags;
+          ∙ hunks-made untagged (characters cells) 0 hunks cells of.stand)) tags;
     }
   where
     characters-untagged : (text : List ℕ) → characters (untagged text) ≡ text
     characters-untagged [] = refl
     characters-untagged (character ∷ text) = ap (λ rest. character ∷ rest) (characters-untagged text)
 
--- nothing is told of a change that leaves the cells, or is refused
+-- no changes are what no edits do
+pub no-changes : (len : ℕ) → AreExact [] len []
+no-changes len = record { same = λ text long. refl; falling = tt }
+
+-- nothing is told of a command that does nothing
 pub told-nothing : (document : Document) (change : Change) (told : EditTold) → told ≡ record { changes = []; tags = [] }
-    → change.document.cells ≡ document.cells → Foretells document change told
-told-nothing document change told none same =
-    told-by document change told document.cells same
-    (subst (TellsCells document.cells document.cells) (sym none) (record { text = refl; tags = refl }))
+    → change.edits ≡ [] → TellsCells change.edits document.cells document.cells told
+told-nothing document change told none still =
+    subst (λ edits. TellsCells edits document.cells document.cells told) (sym still)
+    (subst (TellsCells [] document.cells document.cells) (sym none)
+    (record { text = refl; exact = no-changes (length document.cells); tags = refl }))
 
 -- a change that is another one
 same-foretold : (document : Document) (change is : Change) (told : EditTold) → change ≡ is →
@@ -140,46 +143,53 @@ cells-end widget (Some at) document = refl
 
 -- ---- insert and replace
 
--- nothing is taken out
-none-out : (at : ℕ) (hunks : List Hunk) → hunks ++ taking_out at at ≡ hunks
-none-out at hunks =
-    elim (nat_lt at at) as (λ b. nat_lt at at ≡ b →
-    hunks ++ (if b then record { from = at; to = at; text = [] } ∷ [] else []) ≡ hunks) [
-      | true ↦ λ less. let never = ltb-true at at less in absurd (omega (arith, never))
-      | false ↦ λ _. append-nil hunks
-    ] refl
+-- exactly what edits do, counted by cells
+by-cells : (edits : List Action) (cells : List KeyedCell) (hunks : List Hunk)
+    → AreHunksOf edits (length (characters cells)) hunks → AreHunksOf edits (length cells) hunks
+by-cells edits cells hunks =
+    subst (λ n. AreHunksOf edits n hunks) (length-map cells (λ (cell : KeyedCell). cell.character))
+
+-- what hunks tell of the cells, and tags of what they leave
+abbrev pub TellsHunks : List KeyedCell → List Hunk → List TagChange → EditTold → Type 0
+TellsHunks cells hunks tags told =
+    (edits : List Action) (new : List KeyedCell) → AreHunksOf edits (length cells) hunks
+    → TellsTags tags (patched_by untagged 0 hunks cells) new → TellsCells edits cells new told
 
 pub insertion-foretold : (limits : LimitTable) (document : Document) (widget : Widget) (at : ℕ) (pairs : List Pair)
-    (hunks : List Hunk) (tags : List TagChange) (told : EditTold) → AreLimits limits → hunks ≡ putting at (texts_of pairs)
+    (hunks : List Hunk) (tags : List TagChange) (told : EditTold) → AreLimits limits → at ≤ length document.cells
+    → hunks ≡ replacing at at (joined_text pairs)
     → (length document.cells + total pairs < 2 ^ 64 → TellsPairs widget at at pairs document.cells tags)
-    → ((cells : List KeyedCell) → TellsTags tags (patched_by untagged 0 hunks document.cells) cells
-    → TellsCells document.cells cells told)
+    → TellsHunks document.cells hunks tags told
     → Foretells document (insert_at limits document widget at pairs) told
-insertion-foretold limits document widget at pairs hunks tags told bounds are put tells =
+insertion-foretold limits document widget at pairs hunks tags told bounds within are put tells =
     let tagged : Document = record document { tags = tags_with document pairs } in
     let made : Document = with_texts kind.Insert at (map (keyed_text widget) pairs) tagged in
+    let edits = insertion at (joined_text pairs) ∷ [] in
     let most = bounds.chars in
     limited-foretold limits document (length (tags_with document pairs)) (length document.cells + total pairs)
-    (answered made Empty) told
-    (λ fits. told-by document (answered made Empty) told made.cells refl (tells made.cells
-    (subst (λ hs. TellsTags tags (patched_by untagged 0 hs document.cells) made.cells)
-    (none-out at (putting at (texts_of pairs)) ∙ sym are)
+    (edited made edits) told
+    (λ fits. told-by document (edited made edits) told made.cells refl (tells edits made.cells
+    (subst (AreHunksOf edits (length document.cells)) (sym are)
+    (inserting-of (length document.cells) at (joined_text pairs) within))
+    (subst (λ hs. TellsTags tags (patched_by untagged 0 hs document.cells) made.cells) (sym are)
     (put (omega (arith, fits, most)) kind.Insert tagged (sym (take-append-drop at document.cells))))))
 
 -- with both offsets as they were found
 pub replacement-foretold : (limits : LimitTable) (document : Document) (widget : Widget) (from to start end : ℕ)
     (pairs : List Pair) (hunks : List Hunk) (tags : List TagChange) (told : EditTold) → AreLimits limits → start ≡ from → end ≡ to
-    → start ≤ end → length document.cells ≤ 2 ^ 60 → hunks ≡ putting start (texts_of pairs) ++ taking_out start end
+    → start ≤ end → end ≤ length document.cells → length document.cells ≤ 2 ^ 60
+    → hunks ≡ replacing start end (joined_text pairs)
     → (length document.cells + total pairs < 2 ^ 64 → TellsPairs widget start end pairs document.cells tags)
-    → ((cells : List KeyedCell) → TellsTags tags (patched_by untagged 0 hunks document.cells) cells
-    → TellsCells document.cells cells told)
+    → TellsHunks document.cells hunks tags told
     → Foretells document (replace_span limits document widget from to pairs) told
-replacement-foretold limits document widget from to start end pairs hunks tags told bounds begins ends ordered short are
-    put tells =
+replacement-foretold limits document widget from to start end pairs hunks tags told bounds begins ends ordered within short
+    are put tells =
     let tagged : Document = record document { tags = tags_with document pairs } in
     let out : Document = without_span kind.Replace start end tagged in
     let in_place : Document = with_texts kind.Replace start (map (keyed_text widget) pairs) out in
-    let change = answered (replaced document widget start end pairs) Empty in
+    let text = joined_text pairs in
+    let edits = deletion (characters document.cells) start end ∷ insertion start text ∷ [] in
+    let change = edited (replaced document widget start end pairs) edits in
     let most = bounds.chars in
     same-foretold document (replace_span limits document widget from to pairs)
     (replace_span limits document widget start end pairs) told
@@ -188,7 +198,12 @@ replacement-foretold limits document widget from to start end pairs hunks tags t
     (length document.cells - (end - start) + total pairs) change told
     (λ fits. told-by document change told in_place.cells
     (cells-clipped widget (clipped start end (total pairs) widget.insert) in_place)
-    (tells in_place.cells (subst (λ hs. TellsTags tags (patched_by untagged 0 hs document.cells) in_place.cells)
+    (tells edits in_place.cells
+    (subst (AreHunksOf edits (length document.cells)) (sym are)
+    (by-cells edits document.cells (replacing start end text)
+    (replacing-of (characters document.cells) start end text ordered
+    (let long = length-map document.cells (λ (cell : KeyedCell). cell.character) in omega (arith, long, within)))))
+    (subst (λ hs. TellsTags tags (patched_by untagged 0 hs document.cells) in_place.cells)
     (sym are) (put (omega (arith, fits, most, short)) kind.Replace out (cells-span kind.Replace start end tagged))))))
 
 -- ---- delete
@@ -205,9 +220,7 @@ deletion-foretold : (document : Document) (widget : Widget) (spans runs : List S
     (tags : List TagChange) (told : EditTold) → runs ≡ deleted_runs document widget spans → AreApart (length document.cells) runs
     → hunks ≡ taking runs → takes ≡ in_spans spans (view_end document widget - 1)
     → (takes ≡ true → TellsBare (view_end document widget - 1) runs document.cells tags)
-    → (takes ≡ false → tags ≡ [])
-    → ((cells : List KeyedCell) → TellsTags tags (patched_by untagged 0 hunks document.cells) cells
-    → TellsCells document.cells cells told)
+    → (takes ≡ false → tags ≡ []) → TellsHunks document.cells hunks tags told
     → Foretells document (delete_spans document widget spans) told
 deletion-foretold document widget spans runs hunks takes tags told is apart are takes_is bared plain tells =
     let last = view_end document widget - 1 in
@@ -216,7 +229,12 @@ deletion-foretold document widget spans runs hunks takes tags told is apart are 
     let made : (delete_spans document widget spans).document.cells ≡ (gone takes).cells =
     ap (λ rs. (without_spans kind.Delete rs (last_bare widget spans document)).cells) (sym is)
     ∙ ap (λ b. (gone b).cells) (sym takes_is) in
-    told-by document (delete_spans document widget spans) told (gone takes).cells made (tells (gone takes).cells
+    told-by document (delete_spans document widget spans) told (gone takes).cells made
+    (subst (λ rs. TellsCells (deletions document rs) document.cells (gone takes).cells told) is
+    (tells (deletions document runs) (gone takes).cells
+    (subst (AreHunksOf (deletions document runs) (length document.cells)) (sym are)
+    (by-cells (deletions document runs) document.cells (taking runs) (taking-of (characters document.cells) runs
+    (subst (λ n. AreApart n runs) (sym (length-map document.cells (λ (cell : KeyedCell). cell.character))) apart))))
     (subst (λ hs. TellsTags tags (patched_by untagged 0 hs document.cells) (gone takes).cells) (sym are)
     (elim takes as (λ b. takes ≡ b
     → TellsTags tags (patched_by untagged 0 (taking runs) document.cells) (gone b).cells) [
@@ -225,35 +243,25 @@ deletion-foretold document widget spans runs hunks takes tags told is apart are 
           (gone false).cells) (sym (plain leaves_it))
           (cells-spans kind.Delete runs document
           ∙ sym (taking-is untagged (length document.cells) runs document.cells refl apart (omega arith)))
-    ] refl)))
+    ] refl))))
 
--- of a document as it is kept, where the view's bounds, the spans and the runs were found
-pub deletion-told : {parts : Parts} {document : Document} {place slot start end : ℕ} {spans runs : List Span}
-    {hunks : List Hunk} {takes : Bool} {tags : List TagChange} {told : EditTold} (places : List ℕ)
-    → IsSeen parts document place slot parts.content start end
-    → spans ≡ spans_shown document (widget_at document place) places
-    → runs ≡ runs_below (length parts.content.cells) (delete_set (model.characters parts.content.cells) start end
-    (in_spans spans))
-    → AreApart (length parts.content.cells) runs → hunks ≡ taking runs → takes ≡ in_spans spans (end - 1)
+-- of a document as it is kept, where the runs were found
+pub deletion-told : (document : Document) (widget : Widget) (kept : List Cell) (spans : List Span) {start end : ℕ}
+    {runs : List Span} {hunks : List Hunk} {takes : Bool} {tags : List TagChange} {told : EditTold}
+    → length document.cells ≡ length kept → characters document.cells ≡ model.characters kept
+    → start ≡ view_start widget → end ≡ view_end document widget
+    → runs ≡ runs_below (length kept) (delete_set (model.characters kept) start end (in_spans spans))
+    → AreApart (length kept) runs → hunks ≡ taking runs → takes ≡ in_spans spans (end - 1)
     → (takes ≡ true → TellsBare (end - 1) runs document.cells tags) → (takes ≡ false → tags ≡ [])
-    → ((cells : List KeyedCell) → TellsTags tags (patched_by untagged 0 hunks document.cells) cells
-    → TellsCells document.cells cells told)
-    → Foretells document (delete_places document (widget_at document place) places) told
-deletion-told {parts} {document} {place} {spans = spans} {runs} {hunks} {takes} {tags} {told} places seen shows is apart
-    are takes_is bared plain tells =
-    let widget : Widget = widget_at document place in
-    let shown_spans : List Span = spans_shown document widget places in
-    let long = cells-kept parts document seen.stands.is in
-    let text_is = characters-kept parts document seen.stands.is in
-    let start_is = start-found-is seen in
-    let end_is = end-found-is seen in
-    let runs_are : runs ≡ deleted_runs document widget shown_spans =
-    is
-    ∙ (λ i. runs_below (sym long i) (delete_set (sym text_is i) (start_is i) (end_is i) (in_spans (shows i)))) in
-    deletion-foretold document widget shown_spans runs hunks takes tags told runs_are
-    (subst (λ n. AreApart n runs) (sym long) apart) are
-    (takes_is ∙ ap₂ (λ ss n. in_spans ss (n - 1)) shows end_is)
-    (subst (λ n. takes ≡ true → TellsBare (n - 1) runs document.cells tags) end_is bared) plain tells
+    → TellsHunks document.cells hunks tags told
+    → Foretells document (delete_spans document widget spans) told
+deletion-told document widget kept spans {runs = runs} {hunks} {takes} {tags} {told} long text_is starts ends is apart are
+    takes_is bared plain tells =
+    let runs_are : runs ≡ deleted_runs document widget spans =
+    is ∙ (λ i. runs_below (sym long i) (delete_set (sym text_is i) (starts i) (ends i) (in_spans spans))) in
+    deletion-foretold document widget spans runs hunks takes tags told runs_are
+    (subst (λ n. AreApart n runs) (sym long) apart) are (takes_is ∙ ap (λ n. in_spans spans (n - 1)) ends)
+    (subst (λ n. takes ≡ true → TellsBare (n - 1) runs document.cells tags) ends bared) plain tells
 
 -- ---- a character that loses its tags
 
@@ -427,33 +435,36 @@ module _ (seats : List Named) (table : Tags) (seated : AreSeats seats) (sound : 
 
 pub undo-some : (document : Document) (widget : Widget) (group : List Action) (told : EditTold)
     → document.undo ≡ true → next_undo document.history ≡ Some group → is_idle document widget ≡ false
-    → TellsCells document.cells (group_again (replays true group) document).cells told
+    → TellsCells (replays true group) document.cells (group_again (replays true group) document).cells told
     → Foretells document (edit_undo document widget) told
 undo-some document widget group told on is busy tells =
     let gone : Document = undone widget group document in
-    same-foretold document (edit_undo document widget) (answered gone Empty) told
+    let edits = replays true group in
+    same-foretold document (edit_undo document widget) (edited gone edits) told
     (undo-done document widget group on is busy)
-    (told-by document (answered gone Empty) told (group_again (replays true group) document).cells
+    (told-by document (edited gone edits) told (group_again (replays true group) document).cells
     (cells-end widget (undo_end group) (group_back group document)
     ∙ ap (λ (d : Document). d.cells) (sym (again-back group document))) tells)
 
 pub redo-some : (document : Document) (widget : Widget) (group : List Action) (told : EditTold)
     → document.undo ≡ true → next_redo document.history ≡ Some group → is_idle document widget ≡ false
-    → TellsCells document.cells (group_again (replays false group) document).cells told
+    → TellsCells (replays false group) document.cells (group_again (replays false group) document).cells told
     → Foretells document (edit_redo document widget) told
 redo-some document widget group told on is busy tells =
     let again : Document = redone widget group document in
-    same-foretold document (edit_redo document widget) (answered again Empty) told
+    let edits = replays false group in
+    same-foretold document (edit_redo document widget) (edited again edits) told
     (redo-done document widget group on is busy)
-    (told-by document (answered again Empty) told (group_again (replays false group) document).cells
+    (told-by document (edited again edits) told (group_again (replays false group) document).cells
     (cells-end widget (redo_end group) (group_again group document)) tells)
 
 -- ---- what is told of commands that are carried out
 
 -- what was foretold of a command is told of it once it is answered
 pub told-made : {limits : LimitTable} {old new : Document} {change : Change} {told : EditTold}
-    → Does limits old new (Ok Empty) change → Foretells old change told → TellsCells old.cells new.cells told
+    → Does limits old new (Ok Empty) change → Foretells old change told
+    → TellsCells change.edits old.cells new.cells told
 told-made {limits} {old} {new} {change} {told} does foretold =
     let known : Ok Empty ≢ Err Memory = λ same. (let h : Ok Empty ≡ Err Memory = same in absurd (cc)) in
-    subst (λ (d : Document). TellsCells old.cells d.cells told) (sym (does.document known))
+    subst (λ (d : Document). TellsCells change.edits old.cells d.cells told) (sym (does.document known))
     (foretold (ap is_ok (sym (does.reply known))))

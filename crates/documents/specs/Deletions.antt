@@ -1,18 +1,19 @@
 -- Commands that take text out: `delete` and `replace`.
-use Rattle.std.specs.Prelude.{ℕ, ◌+◌, ◌-◌, List, length, map, Option, None, Some, if◌then◌else◌}
+use Rattle.std.specs.Prelude.{ℕ, ◌+◌, ◌-◌, List, [], ◌∷◌, length, map, Option, None, Some, if◌then◌else◌}
 use Rattle.text_model.specs.LimitTable.{LimitTable}
 use Rattle.text_model.specs.declared.places.Place.{Place}
+use Rattle.undo_stack.specs.declared.actions.Action.{Action}
 use Rattle.undo_stack.specs.declared.actions.EditKind.TheVariants as kind
 use Rattle.edit_ops.specs.declared.spans.Span.{Span}
 use Rattle.edit_ops.specs.Deletions.{delete_set, in_spans, runs_below}
 use Rattle.edit_ops.specs.Removals.{clipped}
-use Rattle.command_effects.specs.declared.answers.Answer.TheVariants.{Empty}
+use Rattle.edit_ops.specs.Told.{deletion, insertion}
 use Rattle.command_effects.specs.Lists.{Pair, total}
 use Rattle.documents.specs.Edits.{with_bare, with_texts, without_span, without_spans}
 use Rattle.documents.specs.Marks.{with_insert}
-use Rattle.documents.specs.Promise.{Change, answered}
+use Rattle.documents.specs.Promise.{Change, edited}
 use Rattle.documents.specs.Ranges.{spans_shown}
-use Rattle.documents.specs.Texts.{keyed_text, tags_with, within_limits}
+use Rattle.documents.specs.Texts.{joined_text, keyed_text, tags_with, within_limits}
 use Rattle.documents.specs.Views.{view_end, view_start}
 use Rattle.documents.specs.Documents.{Document, Widget, characters}
 
@@ -30,9 +31,14 @@ deleted_runs document widget spans =
     runs_below (length document.cells) (delete_set (characters document.cells) (view_start widget)
     (view_end document widget) (in_spans spans))
 
+-- the deletions of runs, as actions
+abbrev pub deletions : Document → List Span → List Action
+deletions document runs = map (λ (run : Span). deletion (characters document.cells) run.from run.to) runs
+
 abbrev pub delete_spans : Document → Widget → List Span → Change
 delete_spans document widget spans =
-    answered (without_spans kind.Delete (deleted_runs document widget spans) (last_bare widget spans document)) Empty
+    let runs = deleted_runs document widget spans in
+    edited (without_spans kind.Delete runs (last_bare widget spans document)) (deletions document runs)
 
 abbrev pub delete_places : Document → Widget → List ℕ → Change
 delete_places document widget places = delete_spans document widget (spans_shown document widget places)
@@ -58,4 +64,5 @@ abbrev pub replace_span : LimitTable → Document → Widget → ℕ → ℕ →
 replace_span limits document widget from to pairs =
     within_limits limits document (length (tags_with document pairs))
     (length document.cells - (to - from) + total pairs)
-    (answered (replaced document widget from to pairs) Empty)
+    (edited (replaced document widget from to pairs)
+    (deletion (characters document.cells) from to ∷ insertion from (joined_text pairs) ∷ []))

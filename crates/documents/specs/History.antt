@@ -1,16 +1,16 @@
 -- Commands on the history and on whether the text is modified: `edit ..`.
-use Rattle.std.specs.Prelude.{ℕ, ◌+◌, Bool, ◌&&◌, List, [], ◌∷◌, length, map, Option, None, Some, is_some, option_map}
-use Rattle.std.specs.Prelude.{if◌then◌else◌}
+use Rattle.std.specs.Prelude.{ℕ, ◌+◌, Bool, true, false, ◌&&◌, List, [], ◌∷◌, length, map, Option, None, Some}
+use Rattle.std.specs.Prelude.{is_some, option_map, if◌then◌else◌}
 use Rattle.undo_stack.specs.History.{after_redo, after_undo, limit_of, next_redo, next_undo, no_history, separated}
 use Rattle.undo_stack.specs.Modified.{counted_down, counted_up, set_to, times}
 use Rattle.undo_stack.specs.declared.actions.Action.{Action}
+use Rattle.edit_ops.specs.Replays.{replays}
 use Rattle.edit_ops.specs.Reversals.{redo_end, undo_end}
 use Rattle.command_effects.specs.declared.answers.Answer.TheVariants.{Empty}
 use Rattle.command_effects.specs.declared.answers.Fault.TheVariants.{NothingToRedo, NothingToUndo}
 use Rattle.documents.specs.Deletions.{with_clipped}
 use Rattle.documents.specs.Edits.{keys_between, with_cells, without_cells}
-use Rattle.documents.specs.Views.{is_idle}
-use Rattle.documents.specs.Promise.{Change, answered, refused}
+use Rattle.documents.specs.Promise.{Change, answered, edited, refused, unless_idle}
 use Rattle.documents.specs.Documents.{Document, Widget}
 
 -- `W edit separator`: where actions are kept, the last group takes no more
@@ -76,12 +76,12 @@ redone widget group document = record (with_end widget (redo_end group) (group_a
 abbrev pub undo_found : Document → Widget → Option (List Action) → Change
 undo_found document widget None = refused document NothingToUndo
 undo_found document widget (Some group) =
-    answered (if is_idle document widget then document else undone widget group document) Empty
+    unless_idle widget document (edited (undone widget group document) (replays true group))
 
 abbrev pub redo_found : Document → Widget → Option (List Action) → Change
 redo_found document widget None = refused document NothingToRedo
 redo_found document widget (Some group) =
-    answered (if is_idle document widget then document else redone widget group document) Empty
+    unless_idle widget document (edited (redone widget group document) (replays false group))
 
 -- `W edit undo`: nothing happens where no action is kept
 abbrev pub edit_undo : Document → Widget → Change

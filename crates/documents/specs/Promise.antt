@@ -1,6 +1,7 @@
 -- What every command promises.
-use Rattle.std.specs.Prelude.{◌≡◌, ◌≢◌, Result, Ok, Err, IfErr, if◌then◌else◌}
+use Rattle.std.specs.Prelude.{◌≡◌, ◌≢◌, List, [], Result, Ok, Err, IfErr, if◌then◌else◌}
 use Rattle.text_model.specs.LimitTable.{LimitTable}
+use Rattle.undo_stack.specs.declared.actions.Action.{Action}
 use Rattle.command_effects.specs.declared.answers.Answer.{Answer}
 use Rattle.command_effects.specs.declared.answers.Fault.{Fault}
 use Rattle.command_effects.specs.declared.answers.Fault.TheVariants.{Memory}
@@ -9,20 +10,25 @@ use Rattle.documents.specs.Views.{is_idle}
 use Rattle.documents.specs.WellFormed.{IsWellFormedDocument, window_names}
 use Rattle.command_effects.specs.declared.answers.Answer.TheVariants.{Empty}
 
--- the answer or the fault, and the document after the command
+-- the answer or the fault, the document after the command, and what the command did to the text, in order
 pub record Change : Type 0 where
   pub reply : Result Answer Fault
   pub document : Document
+  pub edits : List Action
 
 abbrev pub refused : Document → Fault → Change
-refused document fault = record { reply = Err fault; document = document }
+refused document fault = record { reply = Err fault; document = document; edits = [] }
 
 abbrev pub answered : Document → Answer → Change
-answered document answer = record { reply = Ok answer; document = document }
+answered document answer = record { reply = Ok answer; document = document; edits = [] }
+
+-- a command that edits the text answers nothing
+abbrev pub edited : Document → List Action → Change
+edited document edits = record { reply = Ok Empty; document = document; edits = edits }
 
 -- a command that only reads leaves the document unchanged
 abbrev pub unchanged : Document → Result Answer Fault → Change
-unchanged document reply = record { reply = reply; document = document }
+unchanged document reply = record { reply = reply; document = document; edits = [] }
 
 -- what follows a value changes the document; a fault refuses the command
 abbrev pub change_with : {A : Type 0} → Document → Result A Fault → (A → Change) → Change

@@ -5,7 +5,7 @@ use Rattle.std.specs.FinSet as set
 use Rattle.std.specs.List.{All}
 use Rattle.text_model.specs.Splices.{changed, removed}
 use Rattle.undo_stack.specs.declared.actions.EditKind.{EditKind}
-use Rattle.edit_ops.specs.Told.{after_changes_by, patched_by, putting, taking_out}
+use Rattle.edit_ops.specs.Told.{after_changes_by, patched_by, replacing}
 use Rattle.edit_ops.specs.declared.changes.TextChange.{TextChange}
 use Rattle.edit_ops.specs.declared.slot_runs.SlotRun.{SlotRun}
 use Rattle.edit_ops.specs.declared.spans.Span.{Span}
@@ -13,7 +13,7 @@ use Rattle.command_effects.specs.Lists.{Pair}
 use Rattle.documents.specs.Documents.{Document, KeyedCell, Widget}
 use Rattle.documents.specs.Edits.{with_key, with_tag, with_texts}
 use Rattle.documents.specs.Keys.{Key, Keys, keys_listed}
-use Rattle.documents.specs.Texts.{keyed_text}
+use Rattle.documents.specs.Texts.{joined_text, keyed_text}
 use Rattle.documents.specs.declared.tag_lists.TagChange.{TagChange}
 
 -- characters that have no tags yet
@@ -85,6 +85,5 @@ slot_changes pairs (run ∷ runs) =
 abbrev pub TellsPairs : Widget → ℕ → ℕ → List Pair → List KeyedCell → List TagChange → Type 0
 TellsPairs widget from to pairs cells told =
     (kind : EditKind) (document : Document) → document.cells ≡ removed from to cells
-    → TellsTags told
-    (patched_by untagged 0 (putting from (map (λ (pair : Pair). pair.text) pairs) ++ taking_out from to) cells)
+    → TellsTags told (patched_by untagged 0 (replacing from to (joined_text pairs)) cells)
     (with_texts kind from (map (keyed_text widget) pairs) document).cells

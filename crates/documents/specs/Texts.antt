@@ -1,13 +1,14 @@
 -- Commands on texts: `insert` and `get`.
-use Rattle.std.specs.Prelude.{ℕ, ◌+◌, ◌-◌, min, nat_lt, List, length, map, option_map, if◌then◌else◌}
+use Rattle.std.specs.Prelude.{ℕ, ◌+◌, ◌-◌, min, nat_lt, List, [], ◌∷◌, length, map, flat_map, option_map}
+use Rattle.std.specs.Prelude.{if◌then◌else◌}
 use Rattle.text_model.specs.LimitTable.{LimitTable}
 use Rattle.undo_stack.specs.declared.actions.EditKind.TheVariants as kind
-use Rattle.command_effects.specs.declared.answers.Answer.TheVariants.{Empty}
+use Rattle.edit_ops.specs.Told.{insertion}
 use Rattle.command_effects.specs.declared.answers.Fault.TheVariants.{TooManyTags, TextTooLong}
 use Rattle.documents.specs.Edits.{KeyedText, with_texts}
 use Rattle.documents.specs.Keys.{keys_named}
 use Rattle.command_effects.specs.Lists.{Pair, all_names, total, with_names}
-use Rattle.documents.specs.Promise.{Change, refused, answered}
+use Rattle.documents.specs.Promise.{Change, refused, edited}
 use Rattle.documents.specs.Views.{view_start, shown}
 use Rattle.documents.specs.Documents.{Document, Widget}
 
@@ -26,13 +27,17 @@ within_limits limits document tags chars change =
     else (if nat_lt limits.chars chars then refused document TextTooLong
     else change)
 
--- Texts go in at an offset of the document, each behind the one before it, and the tags of their lists are made, within
--- the limits.
+-- the texts of pairs, one after the other
+abbrev pub joined_text : List Pair → List ℕ
+joined_text pairs = flat_map (λ (pair : Pair). pair.text) pairs
+
+-- Texts are inserted at an offset of the document, each after the one before it, and the tags of their lists are made,
+-- within the limits.
 abbrev pub insert_at : LimitTable → Document → Widget → ℕ → List Pair → Change
 insert_at limits document widget at pairs =
     within_limits limits document (length (tags_with document pairs)) (length document.cells + total pairs)
-    (answered (with_texts kind.Insert at (map (keyed_text widget) pairs)
-    (record document { tags = tags_with document pairs })) Empty)
+    (edited (with_texts kind.Insert at (map (keyed_text widget) pairs)
+    (record document { tags = tags_with document pairs })) (insertion at (joined_text pairs) ∷ []))
 
 -- before a place of the view, or at its end just before its last newline
 abbrev pub insertion_offset : Document → Widget → ℕ → ℕ

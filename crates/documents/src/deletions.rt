@@ -29,13 +29,14 @@ impl<S: TextStore> Document<S> {
             All (λ place. place ≤ length (shown self.old widget)) places.now }
         ensures does { (limits : LimitTable) → Does limits self.old self.new (reply_of result)
             (delete_places self.old (widget_at self.old caller.now.seat) places.now) }
-        ensures told { IsTold caller.now.follows self.old self.new result }
+        ensures told { IsTold caller.now.follows
+            (delete_places self.old (widget_at self.old caller.now.seat) places.now) self.old self.new result }
     {
-        let told = self.told_deletion(caller, places)?;
         let slot = self.seats.number(caller.seat);
         let start = start_of(&self.text.anchors, slot);
         let end = end_of(&self.text.anchors, slot, self.text.store.len());
         let spans = spans_of(self.alloc, start, end - start, places)?;
+        let told = self.told_deletion(caller, start, end, &spans)?;
         delete_spans(
             self.alloc,
             &mut self.text,
@@ -64,7 +65,9 @@ impl<S: TextStore> Document<S> {
             Does caller.now.limits.now self.old self.new (reply_of result)
             (replace_span caller.now.limits.now self.old widget (insertion_offset self.old widget from)
             (insertion_offset self.old widget to) pairs.items) }
-        ensures told { IsTold caller.now.follows self.old self.new result }
+        ensures told { let widget = widget_at self.old caller.now.seat in IsTold caller.now.follows
+            (replace_span caller.now.limits.now self.old widget (insertion_offset self.old widget from)
+            (insertion_offset self.old widget to) pairs.items) self.old self.new result }
     {
         let told = self.told_replacement(caller, from, to, &pairs)?;
         let slot = self.seats.number(caller.seat);

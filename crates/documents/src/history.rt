@@ -72,7 +72,8 @@ impl<S: TextStore> Document<S> {
         requires formed { IsWellFormedDocument caller.now.limits.now self.old }
         ensures does { Does caller.now.limits.now self.old self.new (reply_of result)
             (edit_undo self.old (widget_at self.old caller.now.seat)) }
-        ensures told { IsTold caller.now.follows self.old self.new result }
+        ensures told { IsTold caller.now.follows (edit_undo self.old (widget_at self.old caller.now.seat))
+            self.old self.new result }
     {
         if !self.settings.undo {
             return Ok(EditTold::nothing(self.alloc));
@@ -95,7 +96,8 @@ impl<S: TextStore> Document<S> {
         requires formed { IsWellFormedDocument caller.now.limits.now self.old }
         ensures does { Does caller.now.limits.now self.old self.new (reply_of result)
             (edit_redo self.old (widget_at self.old caller.now.seat)) }
-        ensures told { IsTold caller.now.follows self.old self.new result }
+        ensures told { IsTold caller.now.follows (edit_redo self.old (widget_at self.old caller.now.seat))
+            self.old self.new result }
     {
         if !self.settings.undo {
             return Ok(EditTold::nothing(self.alloc));

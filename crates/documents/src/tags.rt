@@ -140,7 +140,9 @@ impl<S: TextStore> Document<S> {
         ensures does { Does caller.now.limits.now self.old self.new (reply_of result)
             (add_spans caller.now.limits.now self.old (widget_at self.old caller.now.seat) (chars name.now)
             places.now) }
-        ensures told { IsTold caller.now.follows self.old self.new result }
+        ensures told { IsTold caller.now.follows
+            (add_spans caller.now.limits.now self.old (widget_at self.old caller.now.seat) (chars name.now)
+            places.now) self.old self.new result }
     {
         if is_one_too_many(caller.limits, &self.tags, name) {
             return Err(Fault::TooManyTags);
@@ -178,7 +180,9 @@ impl<S: TextStore> Document<S> {
             All (λ place. place ≤ length (shown self.old widget)) places.now }
         ensures does { (limits : LimitTable) → Does limits self.old self.new (reply_of result)
             (remove_spans self.old (widget_at self.old caller.now.seat) (chars name.now) places.now) }
-        ensures told { IsTold caller.now.follows self.old self.new result }
+        ensures told { IsTold caller.now.follows
+            (remove_spans self.old (widget_at self.old caller.now.seat) (chars name.now) places.now)
+            self.old self.new result }
     {
         let number = self.seats.number(caller.seat);
         let Some(slot) = find_tag(&self.tags, TagSlot(number), name) else {
@@ -195,7 +199,7 @@ impl<S: TextStore> Document<S> {
     pub fn delete_tags(&mut self, caller: &Caller<'_>, names: &[String]) -> Result<EditTold, Fault>
         ensures does { (limits : LimitTable) → Does limits self.old self.new (reply_of result)
             (tag_delete self.old (texts_of names.now)) }
-        ensures told { IsTold caller.now.follows self.old self.new result }
+        ensures told { IsTold caller.now.follows (tag_delete self.old (texts_of names.now)) self.old self.new result }
     {
         let told = self.told_tag_delete(caller, names)?;
         let slots = deleted_slots(self.alloc, &self.tags, names)?;

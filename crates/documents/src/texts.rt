@@ -61,7 +61,9 @@ impl<S: TextStore> Document<S> {
         requires within { at < length self.old.cells }
         ensures does { Does caller.now.limits.now self.old self.new (reply_of result)
             (insert_at caller.now.limits.now self.old (widget_at self.old caller.now.seat) at pairs.items) }
-        ensures told { IsTold caller.now.follows self.old self.new result }
+        ensures told { IsTold caller.now.follows
+            (insert_at caller.now.limits.now self.old (widget_at self.old caller.now.seat) at pairs.items)
+            self.old self.new result }
     {
         let told = self.told_insertion(caller, at, &pairs)?;
         let slot = TagSlot(self.seats.number(caller.seat));

@@ -1,48 +1,41 @@
 //! Reports of commands that edit the text.
 
-ghost use Rattle.std.specs.Prelude.{◌≡◌, ◌<◌, ◌≤◌, ◌++◌, [], true, false, length, map, List, OnOk, IfOk, IsSome};
+ghost use Rattle.std.specs.Prelude.{◌≡◌, ◌<◌, ◌≤◌, [], true, false, length, List, IfOk, IsSome};
 ghost use Rattle.std.specs.List.{All};
 ghost use Rattle.text_model.specs.LimitTable.{LimitTable, AreLimits};
 ghost use Rattle.undo_stack.specs.Fits.{repeated_group};
 ghost use Rattle.edit_ops.specs.Replays.{replays};
-ghost use Rattle.edit_ops.specs.Told.{patched_by, putting, AreHunks};
-ghost use Rattle.command_effects.specs.Lists.{Pair as PairOfWords};
-ghost use Rattle.documents.specs.Deletions.{delete_places, replace_span};
+ghost use Rattle.undo_stack.specs.declared.actions.Action.{Action};
+ghost use Rattle.edit_ops.specs.Told.{patched_by, AreHunks, AreHunksOf};
+ghost use Rattle.documents.specs.Deletions.{delete_spans, replace_span};
 ghost use Rattle.documents.specs.Documents.{characters, widget_at, KeyedCell};
 ghost use Rattle.documents.specs.History.{group_again};
 ghost use Rattle.documents.specs.TagsTold.{untagged, TellsTags};
-ghost use Rattle.documents.specs.Texts.{insert_at, insertion_offset};
+ghost use Rattle.documents.specs.Texts.{insert_at, insertion_offset, joined_text};
 ghost use Rattle.documents.specs.Told.{Foretells, TellsCells};
-ghost use Rattle.documents.specs.Views.{is_idle, shown};
+ghost use Rattle.documents.specs.Views.{is_idle, shown, view_end, view_start};
 
 use crate::callers::Caller;
 use crate::documents::Document;
 use crate::tag_lists::TagList;
 use crate::tags_told::{bare_tags, bared_slots, count_in, run_tags};
-use crate::views::{end_of, start_of};
-use command_effects::{Pair, spans_of};
+use command_effects::Pair;
 use edit_ops::{
-    ChangeList, Hunk, deleted_runs, push_removal, push_text, reversal_of, take_spans, tell,
+    ChangeList, Hunk, Span, deleted_runs, push_replacement, reversal_of, take_spans, tell,
 };
 use std::alloc::{AllocError, Global};
 use text_model::{Text, TextStore};
 use undo_stack::Group;
 
-/// Adds the hunks that insert copies of texts at an offset, each after the one before it.
-fn push_texts(
-    alloc: Global,
-    hunks: &mut Vec<Hunk>,
-    at: usize,
-    pairs: &[Pair],
-) -> Result<(), AllocError>
-    ensures { OnOk result (hunks.new.items
-        ≡ hunks.old.items ++ putting at (map (λ (pair : PairOfWords). pair.text) pairs.now)) }
+/// Returns the texts of pairs, one after the other.
+fn joined(alloc: Global, pairs: &[Pair]) -> Result<Text, AllocError>
+    ensures { IfOk result (λ text. text ≡ joined_text pairs.now) }
 {
+    let mut text = String::new(alloc);
     for pair in pairs {
-        let copy = String::from_str(alloc, pair.text.as_str())?;
-        push_text(hunks, at, Text::new(copy))?;
+        text.push_str(pair.text.as_str())?;
     }
-    Ok(())
+    Ok(Text::new(text))
 }
 
 /// The report of an edit: changes of the text, and then changes of tags.
@@ -75,9 +68,10 @@ impl<S: TextStore> Document<S> {
     /// Returns the report of hunks of the text, and then of changes of tags.
     fn tell_hunks(&self, hunks: Vec<Hunk>, tags: TagList) -> Result<EditTold, AllocError>
         requires stand { AreHunks 0 (length self.now.cells) hunks.items }
-        ensures { IfOk result (λ told. (cells : List KeyedCell) →
+        ensures { IfOk result (λ told. (edits : List Action) (cells : List KeyedCell) →
+            AreHunksOf edits (length self.now.cells) hunks.items →
             TellsTags tags (patched_by untagged 0 hunks.items self.now.cells) cells →
-            TellsCells self.now.cells cells told) }
+            TellsCells edits self.now.cells cells told) }
     {
         let changes = tell(self.alloc, &self.text.store, hunks)?;
         Ok(EditTold { changes, tags })
@@ -99,33 +93,33 @@ impl<S: TextStore> Document<S> {
             return Ok(EditTold::nothing(self.alloc));
         }
         let tags = self.pair_tags(caller.seat, at, at, pairs)?;
-        let mut hunks = Vec::with_capacity(self.alloc, pairs.len())?;
-        push_texts(self.alloc, &mut hunks, at, pairs)?;
+        let mut hunks = Vec::with_capacity(self.alloc, 1)?;
+        push_replacement(&mut hunks, at, at, joined(self.alloc, pairs)?)?;
         Ok(self.tell_hunks(hunks, tags)?)
     }
 
-    /// What `delete_places` changes, unless it is refused.
+    /// What `delete_places` changes, unless it is refused, where it deletes spans of what a widget shows from `start`
+    /// to `end`.
     pub(crate) fn told_deletion(
         &self,
         caller: &Caller<'_>,
-        places: &[usize],
+        start: usize,
+        end: usize,
+        spans: &[Span],
     ) -> Result<EditTold, AllocError>
-        requires shown { caller.now.seat < length self.now.widgets }
-        requires active { is_idle self.now (widget_at self.now caller.now.seat) ≡ false }
-        requires within { let widget = widget_at self.now caller.now.seat in
-            All (λ place. place ≤ length (shown self.now widget)) places.now }
+        requires starts { start ≡ view_start (widget_at self.now caller.now.seat) }
+        requires ends { end ≡ view_end self.now (widget_at self.now caller.now.seat) }
+        requires shows { start < end }
+        requires within { end ≤ length self.now.cells }
+        requires spans { All (λ span. span.to ≤ end) spans.now }
         ensures { caller.now.follows ≡ true → IfOk result (λ told.
-            Foretells self.now (delete_places self.now (widget_at self.now caller.now.seat) places.now) told) }
+            Foretells self.now (delete_spans self.now (widget_at self.now caller.now.seat) spans.now) told) }
     {
         if !caller.follows {
             return Ok(EditTold::nothing(self.alloc));
         }
-        let slot = self.seats.number(caller.seat);
         let store = &self.text.store;
-        let start = start_of(&self.text.anchors, slot);
-        let end = end_of(&self.text.anchors, slot, store.len());
-        let spans = spans_of(self.alloc, start, end - start, places)?;
-        let (runs, takes_last) = deleted_runs(self.alloc, store, start, end, &spans)?;
+        let (runs, takes_last) = deleted_runs(self.alloc, store, start, end, spans)?;
         let last = end - 1;
         let slots = bared_slots(store, last, takes_last);
         let at = last.saturating_sub(count_in(&runs));
@@ -157,9 +151,8 @@ impl<S: TextStore> Document<S> {
         let start = self.insertion_offset(caller.seat, from);
         let end = self.insertion_offset(caller.seat, to);
         let tags = self.pair_tags(caller.seat, start, end, pairs)?;
-        let mut hunks = Vec::with_capacity(self.alloc, pairs.len().saturating_add(1))?;
-        push_texts(self.alloc, &mut hunks, start, pairs)?;
-        push_removal(self.alloc, &mut hunks, start, end)?;
+        let mut hunks = Vec::with_capacity(self.alloc, 1)?;
+        push_replacement(&mut hunks, start, end, joined(self.alloc, pairs)?)?;
         Ok(self.tell_hunks(hunks, tags)?)
     }
 
@@ -172,7 +165,7 @@ impl<S: TextStore> Document<S> {
     ) -> Result<EditTold, AllocError>
         requires fits { IsSome
             (repeated_group caller.now.limits.now.chars (replays back group.now) (characters self.now.cells)) }
-        ensures { caller.now.follows ≡ true → IfOk result (λ told. TellsCells self.now.cells
+        ensures { caller.now.follows ≡ true → IfOk result (λ told. TellsCells (replays back group.now) self.now.cells
             (group_again (replays back group.now) self.now).cells told) }
     {
         if !caller.follows {

@@ -1,9 +1,9 @@
 -- The names that most proofs of this crate cite, passed on from one place. Declares nothing.
 pub use Rattle.std.proofs.Common.{[], ap₂, true≢false, ℕ, ◌&&◌, ◌*◌, ◌++◌, ◌+◌, ◌-◌, ◌/◌, ◌<◌, ◌==◌, ◌^◌, ◌||◌, ◌∙◌}
-pub use Rattle.std.proofs.Common.{◌∷◌, ◌≡◌, ◌≢◌, ◌≤◌, Bool, List, None, Option, Some, ap, append-nil, append_assoc}
-pub use Rattle.std.proofs.Common.{arith, cond, drop, eq-eqb, false, get_or, inl, inr, length, length-append}
-pub use Rattle.std.proofs.Common.{length-drop, length-take, map, min, ne_eqb, refl, reverse, rules, set, subst, suc}
-pub use Rattle.std.proofs.Common.{sym, take, take-append-drop, take_all, true, zero}
+pub use Rattle.std.proofs.Common.{◌∷◌, ◌≡◌, ◌≤◌, Bool, List, None, Option, Some, ap, append-nil, append_assoc, arith}
+pub use Rattle.std.proofs.Common.{cond, drop, eq-eqb, false, get_or, inl, inr, length, length-append, length-drop}
+pub use Rattle.std.proofs.Common.{length-take, map, min, ne_eqb, refl, reverse, rules, set, subst, suc, sym, take}
+pub use Rattle.std.proofs.Common.{take-append-drop, take_all, true, zero}
 pub use Rattle.edit_ops.specs.Anchors.{AnchorsStand, AreAnchored, anchor_moved, anchors_drawn, anchors_moved}
 pub use Rattle.edit_ops.specs.Anchors.{anchors_removed, end_drawn, start_drawn}
 pub use Rattle.edit_ops.specs.Deletions.{AreApart, delete_set, deleted, in_spans, onto_runs, removed_spans, run_start}
@@ -12,19 +12,21 @@ pub use Rattle.edit_ops.specs.Insertions.{IsBetween, inserted_text, inserted_tex
 pub use Rattle.edit_ops.specs.Insertions.{total_bytes}
 pub use Rattle.edit_ops.specs.Keeping.{IsAnchored, IsKept}
 pub use Rattle.edit_ops.specs.Orders.{AreAlike, AreWatched, IsLowered, LetsPass, Passes, at_span, steps_in}
-pub use Rattle.edit_ops.specs.PartHunks.{hunks_before, part_hunks, part_runs, run_of}
+pub use Rattle.edit_ops.specs.PartHunks.{hunks_before, part_hunks, part_runs, pending_after, run_of}
 pub use Rattle.edit_ops.specs.Plans.{anchors_left, group_moved, log_after, planned}
 pub use Rattle.edit_ops.specs.Removals.{clipped, removed_span, replaced, replaced_span, with_mark}
-pub use Rattle.edit_ops.specs.Replays.{Follows, IsCursorOf, MakesCells, action_end, cursor_text, drawn_up, replayed}
-pub use Rattle.edit_ops.specs.Replays.{replayed_group, replays}
+pub use Rattle.edit_ops.specs.Replays.{ActsOn, Follows, IsCursorOf, MakesCells, action_end, cursor_text, drawn_up}
+pub use Rattle.edit_ops.specs.Replays.{replayed, replayed_group, replays}
 pub use Rattle.edit_ops.specs.Reversals.{action_redone, action_undone, group_redone, group_undone, log_redone}
 pub use Rattle.edit_ops.specs.Reversals.{log_undone, put_back, redo_end, redone, redone_group, stood, taken_back}
 pub use Rattle.edit_ops.specs.Reversals.{undo_end, undone, undone_group}
+pub use Rattle.edit_ops.specs.SlotRuns.{AreBareRuns, bare_cells, slotted, with_slots}
 pub use Rattle.edit_ops.specs.States.{Log, Outline, State, all_noted, log_noted, log_of, outlineed, state_of}
 pub use Rattle.edit_ops.specs.Tagging.{SpanFits, cell_without, cleared, tagged}
-pub use Rattle.edit_ops.specs.Told.{AreHunks, HasRoom, IsChange, IsHunk, Tells, after_change, after_change_by}
-pub use Rattle.edit_ops.specs.Told.{after_changes_by, end_of, hunk_change, hunk_changes, line_front, patched}
-pub use Rattle.edit_ops.specs.Told.{patched_by, putting, spot_at, taking, taking_out, units_of}
+pub use Rattle.edit_ops.specs.Told.{AreExact, AreFalling, AreHunks, AreHunksOf, AreSeparate, HasRoom, IsChange, IsHunk}
+pub use Rattle.edit_ops.specs.Told.{Tells, after_actions, after_change, after_change_by, after_changes_by, deletion}
+pub use Rattle.edit_ops.specs.Told.{end_of, hunk_change, hunk_changes, insertion, line_front, patched, patched_by}
+pub use Rattle.edit_ops.specs.Told.{replacing, spot_at, taking, taking_out, units_of}
 pub use Rattle.edit_ops.specs.declared.anchors.Anchors.{Anchors}
 pub use Rattle.edit_ops.specs.declared.hunks.Hunk.{Hunk}
 pub use Rattle.edit_ops.specs.declared.orders.Reach.{Reach}
@@ -56,7 +58,7 @@ pub use Rattle.std.specs.Cmp.{nat_cmp_total}
 pub use Rattle.std.specs.List.{All, remove}
 pub use Rattle.std.specs.Option.{is_none, option_to_list}
 pub use Rattle.std.specs.Prelude.{if◌then◌else◌, ⊤, IfSome, IsSome, bytes_eq, chars, encode_utf8, encode_utf8_all}
-pub use Rattle.std.specs.Prelude.{nat_le, nat_lt, not, option_and_then, option_map, slice_get, slice_range}
+pub use Rattle.std.specs.Prelude.{flat_map, nat_le, nat_lt, not, option_and_then, option_map, slice_get, slice_range}
 pub use Rattle.std.specs.Prelude.{string_bytes, sum_by, unwrap_or}
 pub use Rattle.text_cursor.proofs.AroundLaws.{characters-of, length-characters, length-slot_sets, line-append-same}
 pub use Rattle.text_cursor.proofs.AroundLaws.{line-before, line-front, line_start-past, next-behind, next-within}

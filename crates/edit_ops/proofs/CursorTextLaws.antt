@@ -5,9 +5,12 @@ use Rattle.edit_ops.proofs.Common.{Slots, characters, inserted, removed, cells_o
 use Rattle.edit_ops.proofs.Common.{Part, shared_slots, cursor_cells, front_cells, Moves, PartFits, Takes, Puts}
 use Rattle.edit_ops.proofs.Common.{parts_len, characters-of, length-characters, front-length, whole-is, Action, put_in}
 use Rattle.edit_ops.proofs.Common.{take_out, repeated, repeated_group, cursor_text, IsCursorOf, MakesCells}
-use Rattle.edit_ops.proofs.Common.{action_redone, group_redone, put_back, taken_back, State}
+use Rattle.edit_ops.proofs.Common.{action_redone, group_redone, put_back, taken_back, State, ActsOn, after_actions}
+use Rattle.edit_ops.proofs.Common.{insertion, false, Hunk, AreHunks, AreHunksOf, AreSeparate, patched, length-map}
+use Rattle.edit_ops.proofs.Common.{bare_cells}
 use Rattle.edit_ops.proofs.ReversalLaws.{puts-in, takes-out}
 use Rattle.edit_ops.proofs.RunLaws.{some_is}
+use Rattle.std.specs.FinSet as set
 
 -- how long the text is
 cursor_text-length : (content : Content) (cursor : Cursor) → IsCursorOf content cursor →
@@ -53,6 +56,13 @@ module _ {content : Content} {before moved now : Cursor} {at : ℕ} {text : List
       ap (λ cells. inserted at (cells_of text (shared_slots at cells)) cells) same
       ∙ ap (λ some. inserted at (cells_of text some) (cursor_cells content.cells before)) (sym shared) ∙ sym put-leaves
 
+  pub put-acts : ActsOn (insertion at text ∷ []) before now
+  put-acts = λ old long.
+      ap characters (puts.cells old (long ∙ sym moves.old_len))
+      ∙ map-inserted (λ (cell : Cell). cell.character) moved.at (cells_of text slots) (cursor_cells old moved)
+      ∙ ap₂ (λ new cells. inserted moved.at new (characters cells)) (characters-of text slots) (moves.cells old)
+      ∙ ap (λ n. inserted n text (characters (cursor_cells old before))) at_is
+
 -- ---- a text that is taken out
 
 -- it ends in the text
@@ -67,14 +77,17 @@ module _ (text : List ℕ) {content : Content} {before moved now : Cursor} {at c
     (stands : IsCursorOf content before) (moves : Moves before moved) (at_is : moved.at ≡ at)
     (takes : Takes moved now) (len_is : now.len ≡ moved.len - count) (counted : count ≡ length text)
     (some : IsSome (take_out at text (cursor_text content before))) where
-  take-leaves : cursor_cells content.cells now ≡ removed at (at + length text) (cursor_cells content.cells before)
-  take-leaves =
+  take-cells-of : (old : List Cell) → length old ≡ before.old_len
+      → cursor_cells old now ≡ removed at (at + length text) (cursor_cells old before)
+  take-cells-of old long =
       let inside = take-fits content before at text stands some in
       let end : moved.at + (moved.len - now.len) ≡ at + length text =
       omega (arith, at_is, len_is, counted, inside, moves.len) in
-      takes.cells content.cells (sym (moves.old_len ∙ stands.old_len))
-      ∙ ap (λ n. removed moved.at n (cursor_cells content.cells moved)) end
-      ∙ ap₂ (λ n cells. removed n (at + length text) cells) at_is (moves.cells content.cells)
+      takes.cells old (long ∙ sym moves.old_len) ∙ ap (λ n. removed moved.at n (cursor_cells old moved)) end
+      ∙ ap₂ (λ n cells. removed n (at + length text) cells) at_is (moves.cells old)
+
+  take-leaves : cursor_cells content.cells now ≡ removed at (at + length text) (cursor_cells content.cells before)
+  take-leaves = take-cells-of content.cells (sym stands.old_len)
 
   pub take-makes : take_out at text (cursor_text content before) ≡ Some (cursor_text content now)
   take-makes =
@@ -86,6 +99,11 @@ module _ (text : List ℕ) {content : Content} {before moved now : Cursor} {at c
 
   pub take-cells : MakesCells content (taken_back at (at + length text)) before now
   take-cells = λ state same. ap (removed at (at + length text)) same ∙ sym take-leaves
+
+  pub take-acts : ActsOn (record { inserts = false; at = at; text = text } ∷ []) before now
+  take-acts = λ old long.
+      ap characters (take-cells-of old long)
+      ∙ map-removed (λ (cell : Cell). cell.character) at (at + length text) (cursor_cells old before)
 
 -- ---- the actions of a group
 
@@ -101,6 +119,9 @@ pub record MadeSoFar (limit : ℕ) (content : Content) (before now : Cursor) (al
   pub rest : repeated_group limit left (cursor_text content now) ≡ repeated_group limit all (cursor_text content before)
   pub way : (state : State) → state.content.cells ≡ cursor_cells content.cells before
       → OnTheWay content now left (group_redone all state)
+  pub acts : (old : List Cell) → length old ≡ length content.cells
+      → after_actions left (characters (cursor_cells old now))
+      ≡ after_actions all (characters (cursor_cells old before))
 
 pub none-made : (limit : ℕ) (content : Content) (cursor : Cursor) (all : List Action) → IsCursorOf content cursor
     → MadeSoFar limit content cursor cursor all all
@@ -108,6 +129,7 @@ none-made limit content cursor all stands = record {
   stands = stands;
   rest = refl;
   way = λ state same. record { state = state; cells = same; leads = refl };
+  acts = λ old long. refl;
 }
 
 first-some : (found : Option (List ℕ)) (after_it : List ℕ → Option (List ℕ)) → IsSome (option_and_then after_it found) →
@@ -128,8 +150,9 @@ module _ {limit : ℕ} {content : Content} {before now : Cursor} {all left : Lis
 
   pub next-made : {new : Cursor} {action : Action} {rest : List Action} → left ≡ action ∷ rest → IsCursorOf content new
       → repeated limit action (cursor_text content now) ≡ Some (cursor_text content new)
-      → MakesCells content (action_redone action) now new → MadeSoFar limit content before new all rest
-  next-made {new} {action} {rest} is stands made makes = record {
+      → MakesCells content (action_redone action) now new → ActsOn (action ∷ []) now new
+      → MadeSoFar limit content before new all rest
+  next-made {new} {action} {rest} is stands made makes acts = record {
     stands = stands;
     rest = sym (ap (option_and_then (repeated_group limit rest)) made)
         ∙ ap (λ l. repeated_group limit l (cursor_text content now)) (sym is) ∙ so_far.rest;
@@ -138,6 +161,9 @@ module _ {limit : ℕ} {content : Content} {before now : Cursor} {all left : Lis
       cells = makes here.state here.cells;
       leads = ap (λ l. group_redone l here.state) (sym is) ∙ here.leads;
     };
+    acts = λ old long.
+        ap (after_actions rest) (acts old (long ∙ sym so_far.stands.old_len))
+        ∙ ap (λ l. after_actions l (characters (cursor_cells old now))) (sym is) ∙ so_far.acts old long;
   }
 
   pub all-made : left ≡ [] → Some (cursor_text content now) ≡ repeated_group limit all (cursor_text content before)
@@ -147,6 +173,10 @@ module _ {limit : ℕ} {content : Content} {before now : Cursor} {all left : Lis
   all-cells none = λ state same.
       let here = so_far.way state same in
       ap (λ (s : State). s.content.cells) (sym here.leads ∙ ap (λ l. group_redone l here.state) none) ∙ here.cells
+
+  pub all-acts : left ≡ [] → before.old_len ≡ length content.cells → ActsOn all before now
+  all-acts none counted = λ old long.
+      ap (λ l. after_actions l (characters (cursor_cells old now))) (sym none) ∙ so_far.acts old (long ∙ counted)
 
 -- ---- the parts of the text that is made
 
@@ -158,3 +188,24 @@ parts-long content cursor fresh parts stands fit cells =
     sym (front-length content.cells fresh parts
     (subst (λ n. All (PartFits n (length fresh)) parts) stands.old_len fit))
     ∙ ap length cells ∙ whole-is cursor content.cells stands.is (sym stands.old_len)
+
+-- their hunks are exactly what actions do that lead to the cursor from where it was in the old text
+pub parts-exact : (content : Content) (start cursor : Cursor) (fresh : List ℕ) (parts : List Part) (hunks : List Hunk)
+    (actions : List Action) → start.old_len ≡ length content.cells → cursor.old_len ≡ length content.cells
+    → ((old : List Cell) → length old ≡ length content.cells → cursor_cells old start ≡ old)
+    → ActsOn actions start cursor
+    → ((old : List Cell) → length old ≡ cursor.old_len → front_cells old fresh parts ≡ cursor_cells old cursor)
+    → AreHunks 0 (length content.cells) hunks → AreSeparate hunks
+    → ((old : List Cell) → length old ≡ length content.cells
+    → patched 0 hunks (characters old) ≡ characters (front_cells old fresh parts))
+    → AreHunksOf actions (length content.cells) hunks
+parts-exact content start cursor fresh parts hunks actions begins ends begun acts cells stand apart made = record {
+  stand = stand;
+  apart = apart;
+  same = λ text long.
+      let old = bare_cells text in
+      let spelled : characters old ≡ text = characters-of text set.empty in
+      let counted : length old ≡ length content.cells = length-map text _ ∙ long in
+      ap (patched 0 hunks) (sym spelled) ∙ made old counted ∙ ap characters (cells old (counted ∙ sym ends))
+      ∙ acts old (counted ∙ sym begins) ∙ ap (after_actions actions) (ap characters (begun old counted) ∙ spelled);
+}

@@ -1,11 +1,13 @@
 -- What hunks make of an old text.
-use Rattle.edit_ops.proofs.Common.{◌≡◌, ◌≢◌, ℕ, Bool, ◌+◌, ◌-◌, ◌<◌, ◌≤◌, true, false, List, [], ◌∷◌, ◌++◌, length}
-use Rattle.edit_ops.proofs.Common.{take, drop, map, refl, sym, ap, ap₂, ◌∙◌, arith, append-nil, length-append}
-use Rattle.edit_ops.proofs.Common.{length-take, subst, nat_lt, reverse, slice_range, if◌then◌else◌, lt-ltb, ltb-true}
-use Rattle.edit_ops.proofs.Common.{ltb-false, drop-append-le, drop_at, drop-map, map-append, nil_from_length, take_at}
-use Rattle.edit_ops.proofs.Common.{reverse-append, drop_split, inserted, removed, length-removed, map-slice_range}
-use Rattle.edit_ops.proofs.Common.{take-removed, slice-join, AreApart, AreHunks, patched_by, putting, taking}
-use Rattle.edit_ops.proofs.Common.{taking_out, Hunk, Span, append_assoc, between_is}
+use Rattle.edit_ops.proofs.Common.{◌≡◌, ℕ, Bool, ◌+◌, ◌-◌, ◌<◌, ◌≤◌, true, false, List, [], ◌∷◌, ◌++◌, length, take}
+use Rattle.edit_ops.proofs.Common.{drop, map, refl, sym, ap, ap₂, ◌∙◌, arith, append-nil, length-append, length-take}
+use Rattle.edit_ops.proofs.Common.{subst, nat_lt, reverse, slice_range, if◌then◌else◌, lt-ltb, ltb-true, ltb-false}
+use Rattle.edit_ops.proofs.Common.{drop-append-le, drop_at, drop-map, map-append, take_at, reverse-append, drop_split}
+use Rattle.edit_ops.proofs.Common.{inserted, removed, length-removed, map-slice_range, take-removed, slice-join}
+use Rattle.edit_ops.proofs.Common.{AreApart, AreHunks, patched_by, taking, taking_out, Hunk, Span, append_assoc}
+use Rattle.edit_ops.proofs.Common.{between_is, AreSeparate, AreHunksOf, flat_map, replacing, insertion, deletion}
+use Rattle.edit_ops.proofs.Common.{after_actions, length-take-le, take-append-drop, ⊤}
+use Rattle.edit_ops.proofs.DeleteLaws.{length-slice}
 use Rattle.edit_ops.proofs.TellLaws.{hunks-within}
 
 -- ---- parts of a list
@@ -67,60 +69,27 @@ put-behind put at (text ∷ texts) front rest each long =
     ∙ append_assoc front (put text) (joined put texts ++ rest)
     ∙ ap (λ xs. front ++ xs) (sym (append_assoc (put text) (joined put texts) rest))
 
-put-patched : {A : Type 0} (put : List ℕ → List A) (at : ℕ) (texts : List (List ℕ)) (later : List Hunk) (list : List A)
-    → IsEach put
-    → patched_by put at (putting at texts ++ later) list ≡ joined put texts ++ patched_by put at later list
-put-patched put at [] later list each = refl
-put-patched put at ([] ∷ texts) later list each =
-    put-patched put at texts later list each
-    ∙ ap (λ xs. xs ++ joined put texts ++ patched_by put at later list) (sym (nil_from_length (put []) (each [])))
-put-patched put at ((character ∷ new) ∷ texts) later list each =
-    ap₂ (λ xs ys. xs ++ put (character ∷ new) ++ ys) (slice-none at list) (put-patched put at texts later list each)
-    ∙ sym (append_assoc (put (character ∷ new)) (joined put texts) (patched_by put at later list))
+-- elements of a text are those of its parts
+abbrev pub IsPut : {A : Type 0} → (List ℕ → List A) → Type 0
+IsPut put = (put [] ≡ []) × ((text more : List ℕ) → put (text ++ more) ≡ put text ++ put more)
 
--- no hunk more of a text without characters, and else one
-pub none-more : (at : ℕ) (text : List ℕ) (hunks : List Hunk) → text ≡ [] → hunks ≡ hunks ++ putting at (text ∷ [])
-none-more at [] hunks none = sym (append-nil hunks)
-none-more at (character ∷ text) hunks none = let e = ap length none in absurd (omega (arith, e))
+joined-is : {A : Type 0} (put : List ℕ → List A) (texts : List (List ℕ)) → IsPut put
+    → joined put texts ≡ put (flat_map (λ text. text) texts)
+joined-is put [] is = sym is.0
+joined-is put (text ∷ texts) is =
+    ap (λ xs. put text ++ xs) (joined-is put texts is) ∙ sym (is.1 text (flat_map (λ text. text) texts))
 
-pub one-more : (at : ℕ) (text : List ℕ) (hunks now : List Hunk)
-    → now ≡ hunks ++ record { from = at; to = at; text = text } ∷ [] → text ≢ []
-    → now ≡ hunks ++ putting at (text ∷ [])
-one-more at [] hunks now is some = absurd (some refl)
-one-more at (character ∷ text) hunks now is some = is
-
-pub putting-stand : (at len : ℕ) (texts : List (List ℕ)) (later : List Hunk) → AreHunks at len later
-    → AreHunks at len (putting at texts ++ later)
-putting-stand at len [] later stand = stand
-putting-stand at len ([] ∷ texts) later stand = putting-stand at len texts later stand
-putting-stand at len ((character ∷ new) ∷ texts) later stand = (
-  omega arith,
-  record {
-    ordered = omega arith;
-    some = λ _ none. let e = ap length none in omega (arith, e);
-    alone = λ before. absurd (omega (arith, before));
-  },
-  putting-stand at len texts later stand,
-)
-
--- texts are put in before whatever later hunks make
-pub putting-is : {A : Type 0} (put : List ℕ → List A) (at len : ℕ) (texts : List (List ℕ)) (later : List Hunk)
-    (list : List A) → IsEach put → at ≤ length list → AreHunks at len later
-    → patched_by put 0 (putting at texts ++ later) list ≡ put_all put at texts (patched_by put 0 later list)
-putting-is put at len texts later list each within stand =
-    let front = slice_range list 0 at in
-    let long : length front ≡ at = length-take (at - 0) list ∙ omega (arith, within) in
-    patched-lower put 0 at len (putting at texts ++ later) list (omega arith) (putting-stand at len texts later stand)
-    ∙ ap (λ xs. front ++ xs) (put-patched put at texts later list each)
-    ∙ sym (ap (put_all put at texts) (patched-lower put 0 at len later list (omega arith) stand)
-    ∙ put-behind put at texts front (patched_by put at later list) each long)
-
-pub putting-append : (at : ℕ) (texts others : List (List ℕ))
-    → putting at (texts ++ others) ≡ putting at texts ++ putting at others
-putting-append at [] others = refl
-putting-append at ([] ∷ texts) others = putting-append at texts others
-putting-append at ((character ∷ new) ∷ texts) others =
-    ap (λ hunks. record { from = at; to = at; text = character ∷ new } ∷ hunks) (putting-append at texts others)
+-- that is one insertion of all of them
+put-all-is : {A : Type 0} (put : List ℕ → List A) (at : ℕ) (texts : List (List ℕ)) (list : List A) → IsEach put
+    → IsPut put → at ≤ length list
+    → put_all put at texts list ≡ inserted at (put (flat_map (λ text. text) texts)) list
+put-all-is put at texts list each is within =
+    let front = take at list in
+    let rest = drop at list in
+    ap (put_all put at texts) (sym (take-append-drop at list))
+    ∙ put-behind put at texts front rest each (length-take-le at list within)
+    ∙ ap (λ xs. front ++ (xs ++ rest)) (joined-is put texts is)
+    ∙ sym (append_assoc front (put (flat_map (λ text. text) texts)) rest)
 
 -- from an earlier offset on
 pub hunks-lower : (border at len : ℕ) (hunks : List Hunk) → border ≤ at → AreHunks at len hunks →
@@ -146,7 +115,6 @@ stand-one-more at border len [] span stand before some within = (
   record {
     ordered = omega (arith, some);
     some = λ none. absurd (omega (arith, none, some));
-    alone = λ _. refl;
   },
   within,
 )
@@ -221,7 +189,6 @@ taking-out-stands-if true from to len hunks is ordered are =
       record {
         ordered = ordered;
         some = λ same. absurd (omega (arith, some, same));
-        alone = λ _. refl;
       },
       are,
     )
@@ -246,42 +213,178 @@ pub taking-out-patched : {A : Type 0} (put : List ℕ → List A) (from to : ℕ
 taking-out-patched put from to hunks list none ordered =
     taking-out-patched-if put (nat_lt from to) from to hunks list none refl ordered
 
-pub one-removal-more : (from to : ℕ) (hunks now : List Hunk) (text : List ℕ) → text ≡ [] → from < to
-    → now ≡ hunks ++ record { from = from; to = to; text = text } ∷ [] → now ≡ hunks ++ taking_out from to
-one-removal-more from to hunks now text none some is =
-    is ∙ ap (λ t. hunks ++ record { from = from; to = to; text = t } ∷ []) none
-    ∙ ap (λ b. hunks ++ (if b then record { from = from; to = to; text = [] } ∷ [] else [])) (sym (lt-ltb from to some))
+-- one hunk more, or none where it would do nothing
+pub none-more : (from to : ℕ) (text : List ℕ) (hunks : List Hunk) → to ≤ from → text ≡ []
+    → hunks ≡ hunks ++ replacing from to text
+none-more from to [] hunks below none =
+    elim (nat_lt from to) as (λ b. nat_lt from to ≡ b →
+    hunks ≡ hunks ++ (if b then record { from = from; to = to; text = [] } ∷ [] else [])) [
+      | true ↦ λ less. let never = ltb-true from to less in absurd (omega (arith, never, below))
+      | false ↦ λ _. sym (append-nil hunks)
+    ] refl
+none-more from to (character ∷ text) hunks below none = let e = ap length none in absurd (omega (arith, e))
 
-taking-stands : (from to len : ℕ) → from ≤ to → to ≤ len → AreHunks from len (taking_out from to)
-taking-stands from to len ordered within =
-    subst (AreHunks from len) (append-nil (taking_out from to)) (taking-out-stands from to len [] ordered within)
+pub one-more : (from to : ℕ) (text : List ℕ) (hunks now : List Hunk)
+    → now ≡ hunks ++ record { from = from; to = to; text = text } ∷ [] → (text ≡ [] → from < to)
+    → now ≡ hunks ++ replacing from to text
+one-more from to [] hunks now is some =
+    is ∙ ap (λ b. hunks ++ (if b then record { from = from; to = to; text = [] } ∷ [] else []))
+    (sym (lt-ltb from to (some refl)))
+one-more from to (character ∷ text) hunks now is some = is
 
--- texts are put in before what is taken out from the same offset on
-pub replacing-stand : (from to len : ℕ) (texts : List (List ℕ)) (hunks : List Hunk) → from ≤ to → to ≤ len
-    → hunks ≡ putting from texts ++ taking_out from to → AreHunks 0 len hunks
-replacing-stand from to len texts hunks ordered within are =
-    subst (AreHunks 0 len) (sym are)
-    (hunks-lower 0 from len (putting from texts ++ taking_out from to) (omega arith)
-    (putting-stand from len texts (taking_out from to) (taking-stands from to len ordered within)))
+pub replacing-stands : (from to len : ℕ) (text : List ℕ) (hunks : List Hunk) → from ≤ to → AreHunks to len hunks
+    → AreHunks from len (replacing from to text ++ hunks)
+replacing-stands from to len [] hunks ordered are = taking-out-stands from to len hunks ordered are
+replacing-stands from to len (character ∷ text) hunks ordered are = (
+  omega arith,
+  record { ordered = ordered; some = λ _ none. let e = ap length none in omega (arith, e) },
+  are,
+)
 
-pub replacing-is : {A : Type 0} (put : List ℕ → List A) (from to : ℕ) (texts : List (List ℕ)) (hunks : List Hunk)
-    (list : List A) → IsEach put → from ≤ to → to ≤ length list → hunks ≡ putting from texts ++ taking_out from to
-    → patched_by put 0 hunks list ≡ put_all put from texts (removed from to list)
-replacing-is put from to texts hunks list each ordered within are =
-    let len = length list in
-    let later = taking_out from to in
-    let stands = taking-stands from to len ordered within in
-    let none = nil_from_length (put []) (each []) in
-    ap (λ hs. patched_by put 0 hs list) are
-    ∙ putting-is put from len texts later list each (omega (arith, ordered, within)) stands
-    ∙ ap (put_all put from texts) (patched-lower put 0 from len later list (omega arith) stands
+pub replacing-patched : {A : Type 0} (put : List ℕ → List A) (from to : ℕ) (text : List ℕ) (hunks : List Hunk)
+    (list : List A) → put [] ≡ [] → from ≤ to
+    → patched_by put from (replacing from to text ++ hunks) list ≡ put text ++ patched_by put to hunks list
+replacing-patched put from to [] hunks list none ordered =
+    taking-out-patched put from to hunks list none ordered
+    ∙ ap (λ xs. xs ++ patched_by put to hunks list) (sym none)
+replacing-patched put from to (character ∷ text) hunks list none ordered =
+    ap (λ xs. xs ++ put (character ∷ text) ++ patched_by put to hunks list) (slice-none from list)
+
+-- one hunk alone
+alone-stands : (from to len : ℕ) (text : List ℕ) → from ≤ to → to ≤ len → AreHunks from len (replacing from to text)
+alone-stands from to len text ordered within =
+    subst (AreHunks from len) (append-nil (replacing from to text))
+    (replacing-stands from to len text [] ordered within)
+
+pub replacing-stand : (from to len : ℕ) (text : List ℕ) → from ≤ to → to ≤ len → AreHunks 0 len (replacing from to text)
+replacing-stand from to len text ordered within =
+    hunks-lower 0 from len (replacing from to text) (omega arith) (alone-stands from to len text ordered within)
+
+pub replacing-is : {A : Type 0} (put : List ℕ → List A) (from to : ℕ) (text : List ℕ) (list : List A) → put [] ≡ []
+    → from ≤ to → to ≤ length list
+    → patched_by put 0 (replacing from to text) list ≡ inserted from (put text) (removed from to list)
+replacing-is put from to text list none ordered within =
+    let hunks = replacing from to text in
+    let front = take from list in
+    let rest = drop to list in
+    let long : length front ≡ from = length-take-le from list (omega (arith, ordered, within)) in
+    patched-lower put 0 from (length list) hunks list (omega arith)
+    (alone-stands from to (length list) text ordered within)
     ∙ ap₂ (λ n xs. take n list ++ xs) (let e : from - 0 ≡ from = omega arith in e)
-    (ap (λ hs. patched_by put from hs list) (sym (append-nil later))
-    ∙ taking-out-patched put from to [] list none ordered))
+    (ap (λ hs. patched_by put from hs list) (sym (append-nil hunks))
+    ∙ replacing-patched put from to text [] list none ordered)
+    ∙ sym (ap₂ (λ xs ys. xs ++ put text ++ ys) (take_at front rest from long) (drop_at front rest from long)
+    ∙ append_assoc front (put text) rest)
 
--- texts are put in
-pub inserting-stand : (at len : ℕ) (texts : List (List ℕ)) (hunks : List Hunk) → at ≤ len → hunks ≡ putting at texts
-    → AreHunks 0 len hunks
-inserting-stand at len texts hunks within are =
-    subst (AreHunks 0 len) (append-nil (putting at texts) ∙ sym are)
-    (hunks-lower 0 at len (putting at texts ++ []) (omega arith) (putting-stand at len texts [] within))
+-- texts that are put in after another one are one text in the place of the characters
+pub replacing-all : {A : Type 0} (put : List ℕ → List A) (from to : ℕ) (texts : List (List ℕ)) (list : List A)
+    → IsEach put → IsPut put → from ≤ to → to ≤ length list
+    → patched_by put 0 (replacing from to (flat_map (λ text. text) texts)) list
+    ≡ put_all put from texts (removed from to list)
+replacing-all put from to texts list each is ordered within =
+    replacing-is put from to (flat_map (λ text. text) texts) list is.0 ordered within
+    ∙ sym (put-all-is put from texts (removed from to list) each is
+    (let long = length-removed from to list ordered within in omega (arith, long, ordered, within)))
+
+-- ---- a character stays between two hunks
+
+separate-cons : (hunk : Hunk) (at len : ℕ) (hunks : List Hunk) → hunk.to < at → AreHunks at len hunks
+    → AreSeparate hunks → AreSeparate (hunk ∷ hunks)
+separate-cons hunk at len [] below stand apart = tt
+separate-cons hunk at len (next ∷ hunks) below stand apart = (let h = stand.0 in omega (arith, below, h), apart)
+
+pub replacing-separate : (from to at len : ℕ) (text : List ℕ) (hunks : List Hunk) → to < at → AreHunks at len hunks
+    → AreSeparate hunks → AreSeparate (replacing from to text ++ hunks)
+replacing-separate from to at len [] hunks below stand apart =
+    elim (nat_lt from to) as
+    (λ b. AreSeparate ((if b then record { from = from; to = to; text = [] } ∷ [] else []) ++ hunks)) [
+      | true ↦ separate-cons (record { from = from; to = to; text = [] }) at len hunks below stand apart
+      | false ↦ apart
+    ]
+replacing-separate from to at len (character ∷ text) hunks below stand apart =
+    separate-cons (record { from = from; to = to; text = character ∷ text }) at len hunks below stand apart
+
+pub alone-separate : (from to : ℕ) (text : List ℕ) → AreSeparate (replacing from to text)
+alone-separate from to text =
+    subst AreSeparate (append-nil (replacing from to text))
+    (replacing-separate from to (to + 1) (to + 1) text [] (omega arith) (let e : to + 1 ≤ to + 1 = omega arith in e) tt)
+
+-- each ends before a border
+abbrev EndBefore : ℕ → List Hunk → Type 0
+EndBefore border [] = ⊤
+EndBefore border (hunk ∷ hunks) = (hunk.to < border) × EndBefore border hunks
+
+ends-more : (border high : ℕ) (hunks : List Hunk) (hunk : Hunk) → EndBefore border hunks → border ≤ high
+    → hunk.to < high → EndBefore high (hunks ++ hunk ∷ [])
+ends-more border high [] hunk before below ends = (ends, tt)
+ends-more border high (first ∷ hunks) hunk before below ends =
+    (let h = before.0 in omega (arith, h, below), ends-more border high hunks hunk before.1 below ends)
+
+separate-more : (hunks : List Hunk) (hunk : Hunk) → AreSeparate hunks → EndBefore hunk.from hunks
+    → AreSeparate (hunks ++ hunk ∷ [])
+separate-more [] hunk apart before = tt
+separate-more (first ∷ []) hunk apart before = (before.0, tt)
+separate-more (first ∷ next ∷ hunks) hunk apart before =
+    (apart.0, separate-more (next ∷ hunks) hunk apart.1 before.1)
+
+taking-separate : (border : ℕ) (spans : List Span) → AreApart border spans
+    → AreSeparate (taking spans) × EndBefore border (taking spans)
+taking-separate border [] apart = (tt, tt)
+taking-separate border (span ∷ spans) apart =
+    let some = apart.0 in
+    let below = apart.1 in
+    let others = taking-separate span.from spans apart.2 in
+    subst (λ hunks. AreSeparate hunks × EndBefore border hunks) (sym (taking-more span spans)) (
+      separate-more (taking spans) (taken span) others.0 others.1,
+      ends-more span.from border (taking spans) (taken span) others.1 (omega (arith, some, below)) below,
+    )
+
+-- ---- hunks are exactly what actions do
+
+pub replacing-of : (old : List ℕ) (from to : ℕ) (text : List ℕ) → from ≤ to → to ≤ length old
+    → AreHunksOf (deletion old from to ∷ insertion from text ∷ []) (length old) (replacing from to text)
+replacing-of old from to text ordered within =
+    let long = length-slice from to old ordered within in
+    record {
+      stand = replacing-stand from to (length old) text ordered within;
+      apart = alone-separate from to text;
+      same = λ other counted.
+          replacing-is (λ put_in. put_in) from to text other refl ordered (omega (arith, within, counted))
+          ∙ ap (λ n. inserted from text (removed from n other))
+          (let e : to ≡ from + length (slice_range old from to) = omega (arith, long, ordered) in e);
+    }
+
+pub inserting-of : (len at : ℕ) (text : List ℕ) → at ≤ len
+    → AreHunksOf (insertion at text ∷ []) len (replacing at at text)
+inserting-of len at text within = record {
+  stand = replacing-stand at at len text (omega arith) within;
+  apart = alone-separate at at text;
+  same = λ other counted.
+      replacing-is (λ put_in. put_in) at at text other refl (omega arith) (omega (arith, within, counted))
+      ∙ ap (inserted at text) (take-append-drop at other);
+}
+
+deleted-same : (old : List ℕ) (border : ℕ) (spans : List Span) (text : List ℕ) → AreApart border spans
+    → border ≤ length old + 1
+    → after_actions (map (λ (span : Span). deletion old span.from span.to) spans) text ≡ removed_all spans text
+deleted-same old border [] text apart below = refl
+deleted-same old border (span ∷ spans) text apart below =
+    let some = apart.0 in
+    let within = apart.1 in
+    let ordered : span.from ≤ span.to = omega (arith, some) in
+    let long = length-slice span.from span.to old ordered (omega (arith, within, below)) in
+    ap (λ n. after_actions (map (λ (span : Span). deletion old span.from span.to) spans) (removed span.from n text))
+    (let e : span.from + length (slice_range old span.from span.to) ≡ span.to = omega (arith, long, ordered) in e)
+    ∙ deleted-same old span.from spans (removed span.from span.to text) apart.2 (omega (arith, some, within, below))
+
+pub taking-of : (old : List ℕ) (spans : List Span) → AreApart (length old) spans
+    → AreHunksOf (map (λ (span : Span). deletion old span.from span.to) spans) (length old) (taking spans)
+taking-of old spans apart =
+    let len = length old in
+    record {
+      stand = taking-stand len len spans apart (omega arith);
+      apart = (taking-separate len spans apart).0;
+      same = λ text counted.
+          taking-is (λ put_in. put_in) len spans text refl apart (omega (arith, counted))
+          ∙ sym (deleted-same old len spans text apart (omega arith));
+    }

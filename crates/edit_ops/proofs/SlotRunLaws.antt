@@ -4,9 +4,9 @@ use Rattle.edit_ops.proofs.Common.{drop, take, refl, sym, ap, ap₂, ◌∙◌, 
 use Rattle.edit_ops.proofs.Common.{drop_at, length-map, take_at, All-cons, All-head, All-nil, All-tail, Cell, Content}
 use Rattle.edit_ops.proofs.Common.{Slots, changed, cells_of, map-map, Cursor, Part, parts_len, cells_between}
 use Rattle.edit_ops.proofs.Common.{front_cells, part_cells, source_len, PartFits, Rise, part-length, Hunk, part_hunks}
-use Rattle.edit_ops.proofs.Common.{part_runs, run_of, IsCursorOf, patched_by, append_assoc}
+use Rattle.edit_ops.proofs.Common.{part_runs, run_of, IsCursorOf, patched_by, append_assoc, map-append, bare_cells}
+use Rattle.edit_ops.proofs.Common.{slotted, with_slots, AreBareRuns}
 use Rattle.edit_ops.specs.declared.slot_runs.SlotRun.{SlotRun}
-use Rattle.edit_ops.specs.SlotRuns.{bare_cells, slotted, with_slots, AreBareRuns}
 use Rattle.edit_ops.proofs.DeleteLaws.{length-slice}
 use Rattle.edit_ops.proofs.PartHunkLaws.{front_items, items_between, parts-patched}
 use Rattle.std.specs.FinSet as set
@@ -135,26 +135,29 @@ pub record OfParts (old : List Cell) (fresh : List ℕ) (parts : List Part) (hun
     : Type 0 where
   pub rise : Rise 0 (length old) parts
   pub fit : All (PartFits (length old) (length fresh)) parts
-  pub hunks_are : hunks ≡ part_hunks 0 (length old) fresh parts
+  pub hunks_are : hunks ≡ part_hunks 0 [] (length old) fresh parts
   pub runs_are : runs ≡ part_runs 0 parts
 
 pub of-parts : (content : Content) (cursor : Cursor) (len : ℕ) (fresh : List ℕ) (parts : List Part) (hunks : List Hunk)
     (runs : List SlotRun) → IsCursorOf content cursor → len ≡ length content.cells → Rise 0 cursor.old_len parts
-    → All (PartFits cursor.old_len (length fresh)) parts → hunks ≡ part_hunks 0 len fresh parts
+    → All (PartFits cursor.old_len (length fresh)) parts → hunks ≡ part_hunks 0 [] len fresh parts
     → runs ≡ part_runs 0 parts → OfParts content.cells fresh parts hunks runs
 of-parts content cursor len fresh parts hunks runs stands long rise fit hunks_are runs_are = record {
   rise = subst (λ n. Rise 0 n parts) stands.old_len rise;
   fit = subst (λ n. All (PartFits n (length fresh)) parts) stands.old_len fit;
-  hunks_are = hunks_are ∙ ap (λ n. part_hunks 0 n fresh parts) long;
+  hunks_are = hunks_are ∙ ap (λ n. part_hunks 0 [] n fresh parts) long;
   runs_are = runs_are;
 }
+
+bare-append : (text more : List ℕ) → bare_cells (text ++ more) ≡ bare_cells text ++ bare_cells more
+bare-append text more = map-append (λ character. record { character = character; tags = set.empty }) text more
 
 bare-is : (old : List Cell) (fresh : List ℕ) (parts : List Part) (hunks : List Hunk) (runs : List SlotRun)
     → OfParts old fresh parts hunks runs
     → patched_by bare_cells 0 hunks old ≡ front_items bare_cells old fresh parts
 bare-is old fresh parts hunks runs of =
     ap (λ hs. patched_by bare_cells 0 hs old) of.hunks_are
-    ∙ parts-patched bare_cells 0 (length old) fresh old parts refl refl of.rise of.fit
+    ∙ parts-patched bare_cells 0 (length old) fresh [] old parts (refl, bare-append) refl of.rise of.fit
 
 pub made-bare : {old : List Cell} {fresh : List ℕ} {parts : List Part} {hunks : List Hunk} {runs : List SlotRun}
     → OfParts old fresh parts hunks runs → AreBareRuns 0 runs (patched_by bare_cells 0 hunks old)

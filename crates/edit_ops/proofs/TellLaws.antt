@@ -1,13 +1,12 @@
 -- The changes of hunks, the last hunk's first, tell what the hunks make of a text.
-use Rattle.edit_ops.proofs.Common.{◌≡◌, ◌≢◌, ℕ, ◌+◌, ◌-◌, ◌≤◌, List, [], ◌∷◌, ◌++◌, map, inl, inr, length, take, drop}
-use Rattle.edit_ops.proofs.Common.{refl, sym, ap, ◌∙◌, arith, subst, append-nil, slice_range, take-add, cases_lt}
-use Rattle.edit_ops.proofs.Common.{append_assoc, drop_at, length-take-le, nil_from_length, reverse-append, take_at}
-use Rattle.edit_ops.proofs.Common.{take-append-drop, take-append-le, take-take, Cell, characters, Hunk, SpotWalk}
-use Rattle.edit_ops.proofs.Common.{spot_at, end_of, after_change, after_change_by, after_changes_by, hunk_change}
-use Rattle.edit_ops.proofs.Common.{hunk_changes, patched, patched_by, AreHunks, IsChange, IsHunk, Tells, reverse}
-use Rattle.edit_ops.proofs.Common.{length-append, length-characters}
+use Rattle.edit_ops.proofs.Common.{◌≡◌, ℕ, ◌+◌, ◌-◌, ◌≤◌, List, [], ◌∷◌, ◌++◌, map, length, take, drop, refl, sym, ap}
+use Rattle.edit_ops.proofs.Common.{◌∙◌, arith, subst, append-nil, slice_range, take-add, append_assoc, drop_at}
+use Rattle.edit_ops.proofs.Common.{length-take-le, reverse-append, take_at, take-append-drop, take-append-le, take-take}
+use Rattle.edit_ops.proofs.Common.{Cell, characters, Hunk, SpotWalk, spot_at, end_of, after_change, after_change_by}
+use Rattle.edit_ops.proofs.Common.{after_changes_by, hunk_change, hunk_changes, patched, patched_by, AreHunks, IsChange}
+use Rattle.edit_ops.proofs.Common.{IsHunk, Tells, reverse, length-append, length-characters, AreExact, AreFalling}
+use Rattle.edit_ops.proofs.Common.{AreHunksOf, AreSeparate, Action, ⊤, ◌<◌}
 use Rattle.edit_ops.specs.declared.changes.TextChange.{TextChange}
-use Rattle.edit_ops.proofs.DeleteLaws.{length-slice}
 use Rattle.edit_ops.proofs.SpotLaws.{spot-end, spot-same}
 
 -- ---- one hunk
@@ -42,18 +41,6 @@ made-after put text list rest hunk ordered within =
     (drop_at (take hunk.to list) rest hunk.to (length-take-le hunk.to list within))
     ∙ ap (λ xs. xs ++ put hunk.text ++ rest) (later-front list rest hunk.to hunk.from ordered within)
 
-made-differs : (old : List ℕ) (hunk : Hunk) (to : ℕ) → IsHunk hunk → to ≡ hunk.to → to ≤ length old →
-    slice_range old hunk.from to ≢ hunk.text
-made-differs old hunk to is end within same =
-    let long : length (slice_range old hunk.from to) ≡ to - hunk.from =
-    length-slice hunk.from to old (omega (arith, is.ordered, end)) within in
-    let count = ap length same in
-    elim (cases_lt hunk.from hunk.to) [
-      | inl removes ↦ let none = ap length (is.alone removes) in omega (arith, none, count, long, end, removes)
-      | inr puts ↦ is.some (let e : hunk.from ≡ hunk.to = omega (arith, is.ordered, puts) in e)
-          (nil_from_length hunk.text (omega (arith, count, long, end, puts)))
-    ]
-
 made-is : (text rest : List ℕ) (hunk : Hunk) → IsHunk hunk → hunk.to ≤ length text →
     IsChange (later text hunk.to rest) (hunk_change text hunk)
 made-is text rest hunk is within =
@@ -76,7 +63,7 @@ made-is text rest hunk is within =
     omega (arith, ap length made, length-append (take hunk.from text ++ hunk.text) rest, new) in
     record {
       within = omega (arith, end, room);
-      differs = made-differs mid hunk (hunk.from + (hunk.to - hunk.from)) is end (omega (arith, end, room));
+      some = λ none. is.some (let e : hunk.from ≡ hunk.to = omega (arith, is.ordered, none) in e);
       start = spot-same text mid hunk.from (sym front);
       old_end = spot-same text mid hunk.to (sym whole) ∙ ap (spot_at mid) (sym end);
       new_end = sym (spot-end after behind fits ∙ ap (λ xs. end_of (take behind xs)) made
@@ -223,3 +210,63 @@ all-told cells hunks told are told_is =
     let text = characters cells in
     subst (λ changes. Tells changes text (patched 0 hunks text)) (sym told_is)
     (hunks-told text 0 hunks (subst (λ n. AreHunks 0 n hunks) (sym (length-characters cells)) are))
+
+-- ---- changes are exactly what actions do
+
+-- each begins above a border
+abbrev Begin : ℕ → List TextChange → Type 0
+Begin border [] = ⊤
+Begin border (change ∷ changes) = (border < change.at) × Begin border changes
+
+begin-more : (border : ℕ) (changes : List TextChange) (change : TextChange) → Begin border changes → border < change.at
+    → Begin border (changes ++ change ∷ [])
+begin-more border [] change begin above = (above, tt)
+begin-more border (first ∷ changes) change begin above = (begin.0, begin-more border changes change begin.1 above)
+
+falling-more : (changes : List TextChange) (change : TextChange) → AreFalling changes
+    → Begin (change.at + change.removed) changes → AreFalling (changes ++ change ∷ [])
+falling-more [] change falling begin = tt
+falling-more (first ∷ []) change falling begin = (begin.0, tt)
+falling-more (first ∷ next ∷ changes) change falling begin =
+    (falling.0, falling-more (next ∷ changes) change falling.1 begin.1)
+
+-- the changes of hunks that begin above a border
+hunks-begin : (text : List ℕ) (border at len : ℕ) (hunks : List Hunk) → border < at → AreHunks at len hunks
+    → Begin border (hunk_changes text hunks)
+hunks-begin text border at len [] above are = tt
+hunks-begin text border at len (hunk ∷ hunks) above are =
+    let from = are.0 in
+    subst (Begin border) (sym (changes-cons text hunk hunks))
+    (begin-more border (hunk_changes text hunks) (hunk_change text hunk)
+    (hunks-begin text border hunk.to len hunks (omega (arith, above, from, are.1.ordered)) are.2)
+    (omega (arith, above, from)))
+
+-- those behind a hunk, from which a character separates them
+others-begin : (text : List ℕ) (border len : ℕ) (hunk : Hunk) (hunks : List Hunk) → border ≡ hunk.to
+    → AreHunks hunk.to len hunks → AreSeparate (hunk ∷ hunks) → Begin border (hunk_changes text hunks)
+others-begin text border len hunk [] is are apart = tt
+others-begin text border len hunk (next ∷ hunks) is are apart =
+    hunks-begin text border next.from len (next ∷ hunks) (let h = apart.0 in omega (arith, h, is))
+    (let e : next.from ≤ next.from = omega arith in e, are.1, are.2)
+
+separate-tail : (hunk : Hunk) (hunks : List Hunk) → AreSeparate (hunk ∷ hunks) → AreSeparate hunks
+separate-tail hunk [] apart = tt
+separate-tail hunk (next ∷ hunks) apart = apart.1
+
+changes-fall : (text : List ℕ) (at len : ℕ) (hunks : List Hunk) → AreHunks at len hunks → AreSeparate hunks
+    → AreFalling (hunk_changes text hunks)
+changes-fall text at len [] are apart = tt
+changes-fall text at len (hunk ∷ hunks) are apart =
+    subst AreFalling (sym (changes-cons text hunk hunks))
+    (falling-more (hunk_changes text hunks) (hunk_change text hunk)
+    (changes-fall text hunk.to len hunks are.2 (separate-tail hunk hunks apart))
+    (others-begin text (hunk.from + (hunk.to - hunk.from)) len hunk hunks (omega (arith, are.1.ordered)) are.2 apart))
+
+pub changes-exact : (actions : List Action) (len : ℕ) (text : List ℕ) (hunks : List Hunk) → AreHunksOf actions len hunks
+    → AreExact actions len (hunk_changes text hunks)
+changes-exact actions len text hunks of = record {
+  same = λ other long.
+      hunks-made (λ put_in. put_in) text 0 hunks other (subst (λ n. AreHunks 0 n hunks) (sym long) of.stand)
+      ∙ of.same other long;
+  falling = changes-fall text 0 len hunks of.stand of.apart;
+}

@@ -5,20 +5,25 @@ use Rattle.text_cursor.specs.declared.parts.Part.{Part}
 use Rattle.text_cursor.specs.Cursors.{old_place}
 use Rattle.edit_ops.specs.declared.hunks.Hunk.{Hunk}
 use Rattle.edit_ops.specs.declared.slot_runs.SlotRun.{SlotRun}
-use Rattle.edit_ops.specs.Told.{taking_out}
+use Rattle.edit_ops.specs.Told.{replacing}
 
--- from a border on: what stands before a part of the old text is taken out, and a new text is put in
-abbrev pub hunks_before : Option Slots → ℕ → ℕ → ℕ → List ℕ → List Hunk
-hunks_before None from to border fresh = taking_out border from
-hunks_before (Some slots) from to border fresh =
-    record { from = border; to = border; text = slice_range fresh from to } ∷ []
+-- up to a part of the old text a pending text replaces what is between a border and the part
+abbrev pub hunks_before : Option Slots → ℕ → ℕ → List ℕ → List Hunk
+hunks_before None from border text = replacing border from text
+hunks_before (Some slots) from border text = []
 
--- from a border on, in an old text of so many characters
-abbrev pub part_hunks : ℕ → ℕ → List ℕ → List Part → List Hunk
-part_hunks border len fresh [] = taking_out border len
-part_hunks border len fresh (part ∷ parts) =
-    hunks_before part.slots part.from part.to border fresh
-    ++ part_hunks (old_place part.slots part.to border) len fresh parts
+-- the text that is pending after a part
+abbrev pub pending_after : Option Slots → ℕ → ℕ → List ℕ → List ℕ → List ℕ
+pending_after None from to fresh text = []
+pending_after (Some slots) from to fresh text = text ++ slice_range fresh from to
+
+-- from a border in an old text of so many characters on, where a text is pending
+abbrev pub part_hunks : ℕ → List ℕ → ℕ → List ℕ → List Part → List Hunk
+part_hunks border text len fresh [] = replacing border len text
+part_hunks border text len fresh (part ∷ parts) =
+    hunks_before part.slots part.from border text
+    ++ part_hunks (old_place part.slots part.to border) (pending_after part.slots part.from part.to fresh text) len
+    fresh parts
 
 -- the run of a new text, in the text that the parts make
 abbrev pub run_of : Option Slots → ℕ → ℕ → List SlotRun

@@ -3,12 +3,14 @@ use Rattle.std.specs.Prelude.{◌≡◌, ℕ, ◌+◌, Bool, true, false, not, L
 use Rattle.std.specs.Prelude.{if◌then◌else◌}
 use Rattle.std.specs.List.{All}
 use Rattle.text_model.specs.Content.{Content, characters}
+use Rattle.text_model.specs.declared.cells.Cell.{Cell}
 use Rattle.text_model.specs.Steps.{Fits, after}
 use Rattle.undo_stack.specs.declared.actions.Action.{Action}
 use Rattle.text_cursor.specs.declared.cursors.Cursor.{Cursor}
 use Rattle.edit_ops.specs.Anchors.{AnchorsStand}
 use Rattle.text_cursor.specs.Cursors.{cursor_cells, IsCursor}
 use Rattle.edit_ops.specs.Reversals.{group_redone, redo_end, stood}
+use Rattle.edit_ops.specs.Told.{after_actions}
 use Rattle.edit_ops.specs.States.{State, Log, Outline, state_of}
 
 -- An outline and a cursor go along: the cursor is in the text that the outline makes of a content.
@@ -33,6 +35,12 @@ abbrev pub MakesCells : Content → (State → State) → Cursor → Cursor → 
 MakesCells content make before now =
     (state : State) → state.content.cells ≡ cursor_cells content.cells before
     → (make state).content.cells ≡ cursor_cells content.cells now
+
+-- Actions lead from the text in which a cursor is to that in which it is afterwards, whatever the old text is.
+abbrev pub ActsOn : List Action → Cursor → Cursor → Type 0
+ActsOn actions before now =
+    (old : List Cell) → length old ≡ before.old_len
+    → characters (cursor_cells old now) ≡ after_actions actions (characters (cursor_cells old before))
 
 -- what an outline makes, of which nothing is noted
 abbrev pub drawn_up : Outline → Content → Log → State

@@ -1,7 +1,9 @@
 -- What is told of an edit: the changes of a text, in order, and where in its lines they are.
-use Rattle.std.specs.Prelude.{◌≡◌, ◌≢◌, ◌<◌, ◌≤◌, ℕ, ◌+◌, ◌-◌, ◌^◌, List, [], ◌∷◌, ◌++◌, length, take, drop}
-use Rattle.std.specs.Prelude.{slice_range, sum_by, nat_lt, encode_utf8_all, map, reverse, if◌then◌else◌}
+use Rattle.std.specs.Prelude.{◌≡◌, ◌≢◌, ◌<◌, ◌≤◌, ℕ, ◌+◌, ◌-◌, ◌^◌, List, [], ◌∷◌, ◌++◌, length, take, drop, ⊤}
+use Rattle.std.specs.Prelude.{slice_range, sum_by, nat_lt, encode_utf8_all, map, reverse, if◌then◌else◌, true, false}
 use Rattle.text_model.specs.Lines.{line_of, line_start}
+use Rattle.text_model.specs.Splices.{inserted, removed}
+use Rattle.undo_stack.specs.declared.actions.Action.{Action}
 use Rattle.edit_ops.specs.declared.changes.TextChange.{TextChange}
 use Rattle.edit_ops.specs.declared.hunks.Hunk.{Hunk}
 use Rattle.edit_ops.specs.declared.spans.Span.{Span}
@@ -54,11 +56,11 @@ abbrev pub after_changes_by : {A : Type 0} → (List ℕ → List A) → List Te
 after_changes_by put [] list = list
 after_changes_by put (change ∷ changes) list = after_changes_by put changes (after_change_by put change list)
 
--- A change of a text: what it takes out stands there, and what it puts in is something else. It begins at one spot;
--- what it takes out ends at one of the text before it, and what it puts in at one of the text after it.
+-- A change of a text deletes characters of it, inserts some, or both. It begins at one spot; what it deletes ends at
+-- one of the text before it, and what it inserts at one of the text after it.
 pub record IsChange (text : List ℕ) (change : TextChange) : Type 0 where
   pub within : change.at + change.removed ≤ length text
-  pub differs : slice_range text change.at (change.at + change.removed) ≢ change.inserted
+  pub some : change.removed ≡ 0 → change.inserted ≢ []
   pub start : change.start ≡ spot_at text change.at
   pub old_end : change.old_end ≡ spot_at text (change.at + change.removed)
   pub new_end : change.new_end ≡ spot_at (after_change change text) (change.at + length change.inserted)
@@ -68,13 +70,45 @@ abbrev pub Tells : List TextChange → List ℕ → List ℕ → Type 0
 Tells [] old new = new ≡ old
 Tells (change ∷ changes) old new = IsChange old change × Tells changes (after_change change old) new
 
+-- ---- what an edit does
+
+-- an insertion of a text, and a deletion of a text's characters from one offset to another, as actions
+abbrev pub insertion : ℕ → List ℕ → Action
+insertion at text = record { inserts = true; at = at; text = text }
+
+abbrev pub deletion : List ℕ → ℕ → ℕ → Action
+deletion text from to = record { inserts = false; at = from; text = slice_range text from to }
+
+-- a text after an action
+abbrev pub after_action : Action → List ℕ → List ℕ
+after_action action text =
+    if action.inserts then inserted action.at action.text text
+    else removed action.at (action.at + length action.text) text
+
+-- a text after actions, one after the other
+abbrev pub after_actions : List Action → List ℕ → List ℕ
+after_actions [] text = text
+after_actions (action ∷ actions) text = after_actions actions (after_action action text)
+
+-- the last position first: each change ends before the one before it begins, and a character stays between the two
+abbrev pub AreFalling : List TextChange → Type 0
+AreFalling [] = ⊤
+AreFalling (change ∷ []) = ⊤
+AreFalling (change ∷ next ∷ changes) = (next.at + next.removed < change.at) × AreFalling (next ∷ changes)
+
+-- Changes are exactly what actions do to a text of so many characters: of every such text they make what the actions
+-- make, so that a character which stays is neither deleted nor inserted; and adjacent changes are one.
+pub record AreExact (actions : List Action) (len : ℕ) (changes : List TextChange) : Type 0 where
+  pub same : (text : List ℕ) → length text ≡ len
+      → after_changes_by (λ inserted. inserted) changes text ≡ after_actions actions text
+  pub falling : AreFalling changes
+
 -- ---- hunks
 
--- A hunk takes characters of an old text out, or it puts a text in between two of them.
+-- a hunk deletes characters of an old text, inserts a text in their place, or between two of them, or both
 pub record IsHunk (hunk : Hunk) : Type 0 where
   pub ordered : hunk.from ≤ hunk.to
   pub some : hunk.from ≡ hunk.to → hunk.text ≢ []
-  pub alone : hunk.from < hunk.to → hunk.text ≡ []
 
 -- hunks in the order of an old text of so many characters, from an offset of it on
 abbrev pub AreHunks : ℕ → ℕ → List Hunk → Type 0
@@ -107,16 +141,27 @@ hunk_change text hunk = record {
 abbrev pub hunk_changes : List ℕ → List Hunk → List TextChange
 hunk_changes text hunks = reverse (map (hunk_change text) hunks)
 
--- hunks that put texts in at an offset, each behind the one before it; none of a text without characters
-abbrev pub putting : ℕ → List (List ℕ) → List Hunk
-putting at [] = []
-putting at ([] ∷ texts) = putting at texts
-putting at ((character ∷ text) ∷ texts) = record { from = at; to = at; text = character ∷ text } ∷ putting at texts
+-- a character of the old text stays between two hunks
+abbrev pub AreSeparate : List Hunk → Type 0
+AreSeparate [] = ⊤
+AreSeparate (hunk ∷ []) = ⊤
+AreSeparate (hunk ∷ next ∷ hunks) = (hunk.to < next.from) × AreSeparate (next ∷ hunks)
 
--- the hunk that takes the characters from one offset to another out, if there are some
+-- hunks are exactly what actions do to a text of so many characters
+pub record AreHunksOf (actions : List Action) (len : ℕ) (hunks : List Hunk) : Type 0 where
+  pub stand : AreHunks 0 len hunks
+  pub apart : AreSeparate hunks
+  pub same : (text : List ℕ) → length text ≡ len → patched 0 hunks text ≡ after_actions actions text
+
+-- the hunk that deletes the characters from one offset to another, if there are some
 abbrev pub taking_out : ℕ → ℕ → List Hunk
 taking_out from to = if nat_lt from to then record { from = from; to = to; text = [] } ∷ [] else []
 
--- hunks that take spans out, of which the last comes first
+-- the hunk that replaces the characters from one offset to another by a text, unless it does nothing
+abbrev pub replacing : ℕ → ℕ → List ℕ → List Hunk
+replacing from to [] = taking_out from to
+replacing from to (character ∷ text) = record { from = from; to = to; text = character ∷ text } ∷ []
+
+-- hunks that delete spans, of which the last comes first
 abbrev pub taking : List Span → List Hunk
 taking spans = map (λ (span : Span). record { from = span.from; to = span.to; text = [] }) (reverse spans)

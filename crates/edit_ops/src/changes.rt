@@ -9,7 +9,8 @@ use std::alloc::{AllocError, Global};
 use std::marker::Model;
 use text_model::{Text, TextStore};
 
-/// A change of a text: from an offset, in characters, so many characters are taken out, and these are put in.
+/// A change of a text: at an offset, in characters, `removed` characters were deleted, and `inserted` was put in their
+/// place.
 #[derive(Drop)]
 pub struct TextChange {
     pub at: usize,
@@ -17,13 +18,13 @@ pub struct TextChange {
     pub inserted: Text,
     /// Where the change begins.
     pub start: Spot,
-    /// Where what is taken out ends, in the text before the change.
+    /// Where what was deleted ends, in the text before the change.
     pub old_end: Spot,
-    /// Where what is put in ends, in the text after the change.
+    /// Where what was inserted ends, in the text after the change.
     pub new_end: Spot,
 }
 
-/// What is told of an edit: changes of a text in order, each of the text that those before it leave. None is idle.
+/// Changes of a text in order, each of the text that those before it leave. None is a no-op.
 /// Contracts see a list.
 #[derive(Drop)]
 pub struct ChangeList {
@@ -86,7 +87,7 @@ fn change_of(hunk: Hunk, start: Spot, old_end: Spot) -> TextChange
     }
 }
 
-/// What is told where hunks of a text are made: of each its change, the last first, so that each stands in the text as
+/// Returns the changes that hunks of a text make, the last hunk's first, so that each is at its offset in the text as
 /// it is now.
 pub fn tell<S: TextStore>(
     alloc: Global,

@@ -1,12 +1,14 @@
-ghost use Rattle.std.specs.Prelude.{◌≡◌, ◌++◌, ◌∷◌, [], IfOk, OnOk};
-ghost use Rattle.edit_ops.specs.Told.{putting, taking, taking_out};
+//! Hunks: what becomes of an old text from one offset of it to another.
+
+ghost use Rattle.std.specs.Prelude.{◌≡◌, ◌++◌, IfOk, OnOk};
+ghost use Rattle.edit_ops.specs.Told.{replacing, taking};
 
 use crate::spans::Span;
 use std::alloc::{AllocError, Global};
 use text_model::Text;
 
-/// What becomes of an old text from one offset of it to another: its characters are taken out, or, between two of them,
-/// a text is put in.
+/// What becomes of an old text from one offset of it to another: a text replaces its characters, or is inserted between
+/// two of them. Where the text is empty, the characters are deleted.
 #[derive(Drop)]
 pub struct Hunk {
     pub from: usize,
@@ -14,41 +16,23 @@ pub struct Hunk {
     pub text: Text,
 }
 
-/// Adds the hunk that puts a text in at an offset, if it has characters.
-pub fn push_text(hunks: &mut Vec<Hunk>, at: usize, text: Text) -> Result<(), AllocError>
-    ensures { OnOk result (hunks.new.items ≡ hunks.old.items ++ putting at (text ∷ [])) }
-{
-    if text.as_str().is_empty() {
-        return Ok(());
-    }
-    hunks.push(Hunk {
-        from: at,
-        to: at,
-        text,
-    })?;
-    Ok(())
-}
-
-/// Adds the hunk that takes the characters from one offset to another out, if there are some.
-pub fn push_removal(
-    alloc: Global,
+/// Adds the hunk that replaces the characters from one offset to another by a text, unless it does nothing.
+pub fn push_replacement(
     hunks: &mut Vec<Hunk>,
     from: usize,
     to: usize,
+    text: Text,
 ) -> Result<(), AllocError>
-    ensures { OnOk result (hunks.new.items ≡ hunks.old.items ++ taking_out from to) }
+    ensures { OnOk result (hunks.new.items ≡ hunks.old.items ++ replacing from to text) }
 {
-    if from < to {
-        hunks.push(Hunk {
-            from,
-            to,
-            text: Text::new(String::new(alloc)),
-        })?;
+    if to <= from && text.as_str().is_empty() {
+        return Ok(());
     }
+    hunks.push(Hunk { from, to, text })?;
     Ok(())
 }
 
-/// The hunks that take spans out, of which the last comes first.
+/// Returns the hunks that delete spans, of which the last comes first.
 pub fn take_spans(alloc: Global, spans: Vec<Span>) -> Result<Vec<Hunk>, AllocError>
     ensures { IfOk result (λ hunks. hunks.items ≡ taking spans.items) }
 {

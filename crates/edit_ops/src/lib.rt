@@ -29,7 +29,7 @@ pub use anchors::{Anchors, anchors_stand};
 pub use changes::{ChangeList, TextChange, tell};
 pub use deletions::{deleted_runs, plan_delete};
 pub use faults::EditFault;
-pub use hunks::{Hunk, push_removal, push_text, take_spans};
+pub use hunks::{Hunk, push_replacement, take_spans};
 pub use insertions::{count_of, plan_insert, slots_beside};
 pub use plans::{Effects, Notes, Plan, Recording, commit};
 pub use replacements::plan_replace;

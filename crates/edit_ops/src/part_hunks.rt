@@ -2,16 +2,17 @@
 
 ghost use Rattle.std.specs.Prelude.{◌≡◌, ◌<◌, ◌≤◌, ◌^◌, ◌++◌, ◌∷◌, [], List, length, chars, string_bytes, IfOk, OnOk};
 ghost use Rattle.std.specs.List.{All};
-ghost use Rattle.edit_ops.specs.PartHunks.{hunks_before, part_hunks, part_runs};
-ghost use Rattle.edit_ops.specs.Told.{AreHunks, patched};
+ghost use Rattle.edit_ops.specs.PartHunks.{hunks_before, part_hunks, part_runs, pending_after};
+ghost use Rattle.edit_ops.specs.Told.{AreHunks, AreSeparate, patched, replacing};
 ghost use Rattle.text_cursor.specs.Cursors.{front_cells, old_place, source_len, PartFits, Rise};
 ghost use Rattle.text_cursor.specs.Parts.{parts_len};
 ghost use Rattle.text_model.specs.Content.{characters};
 ghost use Rattle.text_model.specs.declared.cells.Cell.{Cell};
 
-use crate::hunks::{Hunk, push_removal};
+use crate::hunks::{Hunk, push_replacement};
 use crate::slot_runs::SlotRun;
 use std::alloc::{AllocError, Global};
+use std::mem;
 use text_cursor::{Part, TextParts};
 use text_model::Text;
 
@@ -23,65 +24,80 @@ fn push_char(text: &mut String, character: char) -> Result<(), AllocError>
     Ok(())
 }
 
-/// The text of some characters.
-fn text_of(alloc: Global, characters: &[char]) -> Result<Text, AllocError>
-    ensures { IfOk result (λ text. text ≡ characters.now) }
+/// Adds characters to a text.
+fn push_characters(text: &mut String, characters: &[char]) -> Result<(), AllocError>
+    ensures { OnOk result (chars (string_bytes text.new) ≡ chars (string_bytes text.old) ++ characters.now) }
 {
-    let mut text = String::new(alloc);
     for character in characters {
-        push_char(&mut text, *character)?;
+        push_char(text, *character)?;
     }
-    Ok(Text::new(text))
+    Ok(())
 }
 
-/// Adds what becomes of an old text from a border in it on where a part stands there. Where the border is then.
-fn push_part(
+/// Hunks up to a border in an old text, and the text that is pending there: it comes in the place of what is between
+/// the border and the next part of the old text that stays.
+#[derive(Drop)]
+struct HunkWriter {
     alloc: Global,
-    hunks: &mut Vec<Hunk>,
-    fresh: &[char],
-    part: &Part,
+    hunks: Vec<Hunk>,
     border: usize,
-) -> Result<usize, AllocError>
-    requires ordered { part.now.from ≤ part.now.to }
-    requires within { part.now.to ≤ source_len part.now.slots part.now.to (length fresh.now) }
-    ensures hunks { OnOk result (hunks.new.items
-        ≡ hunks.old.items ++ hunks_before part.now.slots part.now.from part.now.to border fresh.now) }
-    ensures border { IfOk result (λ place. place ≡ old_place part.now.slots part.now.to border) }
-{
-    match part.slots {
-        None => {
-            push_removal(alloc, hunks, border, part.from)?;
-            Ok(part.to)
-        }
-        Some(_) => {
-            let text = text_of(alloc, &fresh[part.from..part.to])?;
-            hunks.push(Hunk {
-                from: border,
-                to: border,
-                text,
-            })?;
-            Ok(border)
+    text: String,
+}
+
+impl HunkWriter {
+    /// Keeps the characters of the old text from one offset to another.
+    fn keep(&mut self, from: usize, to: usize) -> Result<(), AllocError>
+        ensures hunks { OnOk result (self.new.hunks.items
+            ≡ self.old.hunks.items ++ replacing self.old.border from (chars (string_bytes self.old.text))) }
+        ensures text { OnOk result (chars (string_bytes self.new.text) ≡ []) }
+        ensures border { OnOk result (self.new.border ≡ to) }
+    {
+        let text = mem::replace(&mut self.text, String::new(self.alloc));
+        push_replacement(&mut self.hunks, self.border, from, Text::new(text))?;
+        self.border = to;
+        Ok(())
+    }
+
+    /// Keeps a part of the old text, or adds one of the new characters to what is pending.
+    fn write(&mut self, part: &Part, fresh: &[char]) -> Result<(), AllocError>
+        requires ordered { part.now.from ≤ part.now.to }
+        requires within { part.now.to ≤ source_len part.now.slots part.now.to (length fresh.now) }
+        ensures hunks { OnOk result (self.new.hunks.items ≡ self.old.hunks.items
+            ++ hunks_before part.now.slots part.now.from self.old.border (chars (string_bytes self.old.text))) }
+        ensures text { OnOk result (chars (string_bytes self.new.text)
+            ≡ pending_after part.now.slots part.now.from part.now.to fresh.now (chars (string_bytes self.old.text))) }
+        ensures border { OnOk result (self.new.border ≡ old_place part.now.slots part.now.to self.old.border) }
+    {
+        match part.slots {
+            None => self.keep(part.from, part.to),
+            Some(_) => push_characters(&mut self.text, &fresh[part.from..part.to]),
         }
     }
 }
 
-/// The hunks of an old text of so many characters that make a text of these parts of it.
+/// Returns the hunks of an old text of so many characters that make a text of these parts of it.
 pub fn hunks_of(alloc: Global, parts: &TextParts, len: usize) -> Result<Vec<Hunk>, AllocError>
     requires rising { Rise 0 len parts.now.parts.items }
     requires fit { All (PartFits len (length parts.now.fresh.items)) parts.now.parts.items }
     ensures hunks { IfOk result (λ hunks.
-        hunks.items ≡ part_hunks 0 len parts.now.fresh.items parts.now.parts.items) }
+        hunks.items ≡ part_hunks 0 [] len parts.now.fresh.items parts.now.parts.items) }
     ensures stand { IfOk result (λ hunks. AreHunks 0 len hunks.items) }
+    ensures apart { IfOk result (λ hunks. AreSeparate hunks.items) }
     ensures patched { IfOk result (λ hunks. (old : List Cell) → length old ≡ len →
         patched 0 hunks.items (characters old)
         ≡ characters (front_cells old parts.now.fresh.items parts.now.parts.items)) }
 {
-    let mut hunks = Vec::new(alloc);
-    let mut border = 0;
+    let mut writer = HunkWriter {
+        alloc,
+        hunks: Vec::new(alloc),
+        border: 0,
+        text: String::new(alloc),
+    };
     for part in &parts.parts {
-        border = push_part(alloc, &mut hunks, &parts.fresh, part, border)?;
+        writer.write(part, &parts.fresh)?;
     }
-    push_removal(alloc, &mut hunks, border, len)?;
+    writer.keep(len, len)?;
+    let HunkWriter { hunks, .. } = writer;
     Ok(hunks)
 }
 

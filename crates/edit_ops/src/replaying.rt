@@ -1,11 +1,11 @@
 //! What becomes of a text in which a group is undone or redone, as hunks and the slots of what they put in.
 
-ghost use Rattle.std.specs.Prelude.{◌≡◌, ◌<◌, ◌+◌, ◌^◌, length, IfOk, OnOk, IsSome, Some};
-ghost use Rattle.edit_ops.specs.Replays.{replays, cursor_text, IsCursorOf, MakesCells};
+ghost use Rattle.std.specs.Prelude.{◌≡◌, ◌<◌, ◌+◌, ◌^◌, ◌∷◌, [], false, length, IfOk, OnOk, IsSome, Some};
+ghost use Rattle.edit_ops.specs.Replays.{replays, cursor_text, ActsOn, IsCursorOf, MakesCells};
 ghost use Rattle.edit_ops.specs.Reversals.{action_redone, group_redone, put_back, taken_back};
 ghost use Rattle.edit_ops.specs.SlotRuns.{bare_cells, slotted, AreBareRuns};
 ghost use Rattle.edit_ops.specs.States.{State};
-ghost use Rattle.edit_ops.specs.Told.{AreHunks, patched, patched_by};
+ghost use Rattle.edit_ops.specs.Told.{insertion, patched, patched_by, AreHunksOf};
 ghost use Rattle.text_model.specs.Content.{characters};
 ghost use Rattle.undo_stack.specs.Fits.{put_in, repeated, repeated_group, take_out};
 
@@ -33,6 +33,7 @@ fn put_text<S: TextStore>(
     ensures makes { OnOk result (put_in limit at text.now (cursor_text (S.content store.now) cursor.old)
         ≡ Some (cursor_text (S.content store.now) cursor.new)) }
     ensures cells { OnOk result (MakesCells (S.content store.now) (put_back at text.now) cursor.old cursor.new) }
+    ensures acts { OnOk result (ActsOn (insertion at text.now ∷ []) cursor.old cursor.new) }
 {
     let count = count_of(text);
     cursor.seek(at)?;
@@ -55,6 +56,8 @@ fn take_text<S: TextStore>(
         ≡ Some (cursor_text (S.content store.now) cursor.new)) }
     ensures cells { OnOk result
         (MakesCells (S.content store.now) (taken_back at (at + length text.now)) cursor.old cursor.new) }
+    ensures acts { OnOk result
+        (ActsOn (record { inserts = false; at = at; text = text.now } ∷ []) cursor.old cursor.new) }
 {
     let count = count_of(text);
     cursor.seek(at)?;
@@ -79,6 +82,8 @@ fn replay<S: TextStore>(
         (cursor_text (S.content store.now) cursor.old) ≡ Some (cursor_text (S.content store.now) cursor.new)) }
     ensures cells { OnOk result (MakesCells (S.content store.now)
         (action_redone (record { inserts = inserts; at = at; text = text.now })) cursor.old cursor.new) }
+    ensures acts { OnOk result
+        (ActsOn (record { inserts = inserts; at = at; text = text.now } ∷ []) cursor.old cursor.new) }
 {
     if inserts {
         put_text(store, cursor, at, text, limit)
@@ -103,6 +108,7 @@ fn replay_group<S: TextStore>(
         ≡ repeated_group limit (replays back group.now) (cursor_text (S.content store.now) cursor.old)) }
     ensures cells { OnOk result
         (MakesCells (S.content store.now) (group_redone (replays back group.now)) cursor.old cursor.new) }
+    ensures acts { OnOk result (ActsOn (replays back group.now) cursor.old cursor.new) }
     ensures short { OnOk result (cursor.new.len < 2 ^ 64) }
 {
     let count = group.len();
@@ -134,7 +140,8 @@ pub fn reversal_of<S: TextStore>(
 ) -> Result<Reversal, AllocError>
     requires fits { IsSome (repeated_group limit (replays back group.now)
         (characters (S.content store.now).cells)) }
-    ensures stand { IfOk result (λ made. AreHunks 0 (length (S.content store.now).cells) made.hunks.items) }
+    ensures exact { IfOk result (λ made.
+        AreHunksOf (replays back group.now) (length (S.content store.now).cells) made.hunks.items) }
     ensures patched { IfOk result (λ made. Some (patched 0 made.hunks.items (characters (S.content store.now).cells))
         ≡ repeated_group limit (replays back group.now) (characters (S.content store.now).cells)) }
     ensures bare { IfOk result (λ made. AreBareRuns 0 made.runs.items

@@ -46,7 +46,8 @@ pub use Rattle.documents.proofs.StillMarksLaws.{told-still}
 pub use Rattle.documents.proofs.UndoRunLaws.{AnswersFor, after_times, by_found, by_name, undone-redone}
 pub use Rattle.documents.specs.Deletions.{delete_places, replace_span}
 pub use Rattle.documents.specs.Documents.{Document, Widget, characters, widget_at}
-pub use Rattle.documents.specs.History.{edit_redo, edit_reset, edit_undo, modified_set, redo_found, undo_found}
+pub use Rattle.documents.specs.History.{edit_redo, edit_reset, edit_undo, modified_set, redo_found, redone, undo_found}
+pub use Rattle.documents.specs.History.{undone}
 pub use Rattle.documents.specs.Indices.{place_at}
 pub use Rattle.documents.specs.Kept.{is_window_name}
 pub use Rattle.documents.specs.Marks.{mark_offset, place_named, set_found}
@@ -54,7 +55,7 @@ pub use Rattle.documents.specs.MarksTold.{AreMarksTold, MarksTold}
 pub use Rattle.documents.specs.Options.{AreLines, IsLine, settings_of, with_settings}
 pub use Rattle.documents.specs.Promise.{Change, Does, Gives, answered, change_with, refused, unless_idle}
 pub use Rattle.documents.specs.Tags.{add_spans, known_or, lowered, raised, remove_spans, reordered}
-pub use Rattle.documents.specs.Texts.{insert_at, insertion_offset, tags_with, within_limits}
+pub use Rattle.documents.specs.Texts.{insert_at, insertion_offset, joined_text, tags_with, within_limits}
 pub use Rattle.documents.specs.Views.{is_idle, shown, view_end}
 pub use Rattle.documents.specs.WellFormed.{IsPlaced, IsWellFormedDocument, window_names}
 pub use Rattle.documents.specs.Widgets.{ShowsOpenly, bare_document, is_kept, keeps_some, new_document, new_widget}

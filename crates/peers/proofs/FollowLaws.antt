@@ -213,6 +213,7 @@ module _ (start : List ℕ) (world : World) (place : ℕ) (follows : Follows sta
           let made : Outcome = record {
             reply = Ok (Word 1);
             world = record world { documents = documents ++ new_document name settings ∷ [] };
+            edits = [];
           } in
           elim (is_among name (all_windows world)) as
           (λ b. Follows start (if b then refuses world (WindowExists 1)

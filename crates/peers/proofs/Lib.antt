@@ -15,6 +15,7 @@ pub mod PeerLaws
 pub mod PlaceLaws
 pub mod PromiseLaws
 pub mod SettledLaws
+pub mod StillTextLaws
 pub mod SwitchLaws
 pub mod ToldLaws
 pub mod ToldStepLaws

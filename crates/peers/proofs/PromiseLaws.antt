@@ -1,5 +1,5 @@
 -- How a promise goes through a command, word by word.
-use Rattle.peers.proofs.Common.{◌≡◌, ◌≢◌, refl, sym, ap, ◌∙◌, Result, Ok, Err, IfErr, LimitTable, Answer, Fault, Memory}
+use Rattle.peers.proofs.Common.{◌≡◌, ◌≢◌, refl, sym, ap, ◌∙◌, Result, Ok, Err, LimitTable, Answer, Fault, Memory}
 use Rattle.peers.proofs.Common.{Document, with_value, Change, Gives, Does, change_with}
 
 -- what is refused for memory is refused for memory
@@ -83,13 +83,6 @@ module _ {limits : LimitTable} {old new : Document} {result : Result Answer Faul
   does-found defined value next is does =
       does-same (next value) (change_with old defined next) (λ _. ap (λ found. change_with old found next) (sym is))
       does
-
--- a command that only reads leaves the document
-pub does-nothing : (limits : LimitTable) (document : Document) (result defined : Result Answer Fault) →
-    Gives result defined → IfErr result (λ _. document ≡ document)
-    → Does limits document document result (record { reply = defined; document = document })
-does-nothing limits document result defined gives same =
-    record { reply = gives; document = λ _. refl; refused = same; well_formed = λ is. is; windows = refl }
 
 pub does-refused : {A : Type 0} (limits : LimitTable) (old : Document) (defined : Result A Fault) (fault : Fault)
     (next : A → Change)

@@ -20,7 +20,10 @@ use Rattle.peers.proofs.Common.{configure, delete, gravity_asked, gravity_given,
 use Rattle.peers.proofs.Common.{slice_index_or, zero, is_idle, tags_with, within_limits, known_or, set_found}
 use Rattle.peers.proofs.Common.{redo_found, undo_found, next_redo, next_undo, total, with_name, NoSuchTag, TextTooLong}
 use Rattle.peers.proofs.Common.{TooManyMarks, TooManyTags, modified_word, NamesWindow, Gravity, Place, gravity_of}
-use Rattle.peers.proofs.Common.{bad_or, shape_in, text_entry, destroy_entry}
+use Rattle.peers.proofs.Common.{bad_or, shape_in, text_entry, destroy_entry, characters, redone, undone, joined_text}
+use Rattle.edit_ops.specs.Replays.{replays}
+use Rattle.edit_ops.specs.Told.{deletion, insertion}
+use Rattle.documents.specs.Promise.{edited}
 use Rattle.peers.specs.Texts.{insert}
 use Rattle.command_table.specs.declared.shapes.ShapeFault.TheVariants.{WrongArguments}
 use Rattle.undo_stack.specs.declared.actions.Action.{Action}
@@ -96,8 +99,8 @@ module _ (words : List (List ℕ)) (document : Document) where
       (λ pairs. unless_idle widget document (insert_at limits document widget (insertion_offset document widget place)
       pairs)) (λ pairs.
       busy widget (insert_at limits document widget (insertion_offset document widget place) pairs)
-      (limited limits (length (tags_with document pairs)) (length document.cells + total pairs) (answered _ Empty)
-      (said _)))))
+      (limited limits (length (tags_with document pairs)) (length document.cells + total pairs)
+      (edited _ (insertion (insertion_offset document widget place) (joined_text pairs) ∷ [])) (said _)))))
 
   deletes : (widget : Widget) (position : ℕ) (arguments : List (List ℕ)) →
       IsSettled (delete document widget position arguments)
@@ -122,7 +125,9 @@ module _ (words : List (List ℕ)) (document : Document) where
       (insertion_offset document widget to) pairs in
       either (nat_lt to from) (refused document (IndexOrder (position + 1))) (unless_idle widget document change)
       (refusing (IndexOrder (position + 1))) (busy widget change (limited limits (length (tags_with document pairs)) _
-      (answered _ Empty) (said _)))))))
+      (edited _ (deletion (characters document.cells) (insertion_offset document widget from)
+      (insertion_offset document widget to)
+      ∷ insertion (insertion_offset document widget from) (joined_text pairs) ∷ [])) (said _)))))))
 
   turns-word : (widget : Widget) (position : ℕ) (name : List ℕ) (place : Option Place) (gravity : Option Gravity) →
       IsSettled (gravity_given document widget position name place gravity)
@@ -184,11 +189,11 @@ module _ (words : List (List ℕ)) (document : Document) where
 
   undoes : (widget : Widget) (found : Option (List Action)) → IsSettled (undo_found document widget found)
   undoes widget None = inl refl
-  undoes widget (Some group) = said _
+  undoes widget (Some group) = busy widget (edited (undone widget group document) (replays true group)) (said _)
 
   redoes : (widget : Widget) (found : Option (List Action)) → IsSettled (redo_found document widget found)
   redoes widget None = inl refl
-  redoes widget (Some group) = said _
+  redoes widget (Some group) = busy widget (edited (redone widget group document) (replays false group)) (said _)
 
   modifies-word : (position : ℕ) (word : Option (List ℕ)) → IsSettled (modified_word document position word)
   modifies-word position None = inl refl
@@ -277,6 +282,7 @@ creates-with world words name options there named (Ok settings) =
           else record {
             reply = Ok (Word 1);
             world = record world { documents = world.documents ++ new_document name settings ∷ [] };
+            edits = [];
           })) [
             | true ↦ inl refl
             | false ↦ inr (named-there words 1 name options there named)

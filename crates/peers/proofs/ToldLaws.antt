@@ -14,6 +14,7 @@ use Rattle.peers.proofs.DoneLaws.{IsMarkMove, IsTagEdit, IsTextEdit, calling, ot
 use Rattle.peers.proofs.DoneLaws.{marks-done as moved-done}
 use Rattle.peers.proofs.MarksToldLaws.{marks-done, no-text}
 use Rattle.peers.proofs.PromiseLaws.{value≢memory}
+use Rattle.peers.proofs.StillTextLaws.{still-text}
 
 -- ---- commands that leave the characters with their tags
 
@@ -119,14 +120,21 @@ made-holds {limits} {old} {new} {change} {answer} P does holds =
     subst P (sym (does.document (value≢memory (Ok answer) answer refl))) holds
 
 -- nothing is told where the characters stay with their tags
-pub still-cells : (old new : Document) → HasCellsOf old new → TellsCells old.cells new.cells no_edit
-still-cells old new same = record { text = ap characters same; tags = same }
+pub still-cells : (change : Change) (old new : Document) → change.edits ≡ [] → HasCellsOf old new
+    → TellsCells change.edits old.cells new.cells no_edit
+still-cells change old new still same =
+    subst (λ edits. TellsCells edits old.cells new.cells no_edit) (sym still) (record {
+      text = ap characters same;
+      exact = record { same = λ text long. refl; falling = tt };
+      tags = same;
+    })
 
 -- a command that edits the text
-pub told-text : (old new : Document) (follows : Bool) (widget : Widget) (result : Result EditTold Fault)
-    → IsTold follows old new result → AreTold follows true old new widget (edited result)
-told-text old new follows widget (Ok edit) told = λ yes. record { text = told yes; marks = refl }
-told-text old new follows widget (Err fault) told = λ _. tt
+pub told-text : (change : Change) (old new : Document) (follows : Bool) (widget : Widget)
+    (result : Result EditTold Fault) → IsTold follows change old new result
+    → AreTold follows true change old new widget (edited result)
+told-text change old new follows widget (Ok edit) told = λ yes. record { text = told yes; marks = refl }
+told-text change old new follows widget (Err fault) told = λ _. tt
 
 -- what a command makes
 abbrev pub made : LimitTable → List (List ℕ) → Document → Widget → List (List ℕ) → ℕ → List (List ℕ) → Command →
@@ -139,7 +147,9 @@ module _ (limits : LimitTable) (old new : Document) (follows : Bool) (windows : 
   -- a command that edits tags
   pub told-tags : (command : Command) (result : Result EditTold Fault) → edits_text command ≡ false →
       (IsMarkMove command → ⊥) → Does limits old new (reply_of result) (made limits windows old widget switches position arguments command)
-      → IsTold follows old new result → AreTold follows false old new widget (edited result)
+      → IsTold follows (made limits windows old widget switches position arguments command) old new result
+      → AreTold follows false (made limits windows old widget switches position arguments command) old new widget
+      (edited result)
   told-tags command (Ok edit) other still does told = λ yes. record {
     text = told yes;
     marks = λ window found. told-still window old new (made-holds (HasMarksOf window old) does
@@ -151,9 +161,13 @@ module _ (limits : LimitTable) (old new : Document) (follows : Bool) (windows : 
   -- a command that moves marks
   pub told-marks : (command : Command) (result : Result (List (List ℕ)) Fault) → (IsTextEdit command → ⊥) →
       (IsTagEdit command → ⊥) → Does limits old new (reply_of result) (made limits windows old widget switches position arguments command)
-      → AreMarksTold follows old new widget result → AreTold follows false old new widget (moved result)
+      → AreMarksTold follows old new widget result
+      → AreTold follows false (made limits windows old widget switches position arguments command) old new widget
+      (moved result)
   told-marks command (Ok marks) text tags does told = λ yes. record {
-    text = still-cells old new (made-holds (HasCellsOf old) does
+    text = still-cells (made limits windows old widget switches position arguments command) old new
+        (still-text limits windows old widget command switches position arguments text)
+        (made-holds (HasCellsOf old) does
         (cells-done limits windows old widget command switches position arguments text tags));
     marks = told yes;
   }
@@ -162,9 +176,12 @@ module _ (limits : LimitTable) (old new : Document) (follows : Bool) (windows : 
   -- any other command
   pub told-quiet : (command : Command) (result : Result Answer Fault) → is_told command ≡ false →
       Does limits old new result (made limits windows old widget switches position arguments command)
-      → AreTold follows (edits_text command) old new widget (answered result)
+      → AreTold follows (edits_text command) (made limits windows old widget switches position arguments command) old
+      new widget (answered result)
   told-quiet command (Ok answer) quiet does = λ _. record {
-    text = still-cells old new (made-holds (HasCellsOf old) does (cells-done limits windows old widget command switches
+    text = still-cells (made limits windows old widget switches position arguments command) old new
+        (still-text limits windows old widget command switches position arguments (quiet-text command quiet))
+        (made-holds (HasCellsOf old) does (cells-done limits windows old widget command switches
         position arguments (quiet-text command quiet) (quiet-tags command quiet)));
     marks = subst (λ edits. MatchBool edits (◌≡◌ {A = List (List ℕ)} [] []) ((window : List ℕ) → widget_named window old ≡ Some widget
         → MarksTold window old new [])) (sym (quiet-edits command quiet)) (λ window found. told-still window old new

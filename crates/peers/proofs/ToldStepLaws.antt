@@ -6,7 +6,7 @@ use Rattle.peers.proofs.Common.{on_widget, is_frugal_reading, are_frugal, is_sam
 use Rattle.peers.proofs.Common.{is_window_name, IsWellFormedDocument, widget_named, MarksTold, Shape, PeerCreate, Makes}
 use Rattle.peers.proofs.Common.{changed, peer_create, TellsAt, TellsOf, MarksTellAt, MarksTellOf, edits_reading}
 use Rattle.peers.proofs.Common.{edits_text, no_edit, IsWellFormed, World, all_windows, document_at, home, MatchBool}
-use Rattle.peers.proofs.Common.{TellsAll, Told, told-still}
+use Rattle.peers.proofs.Common.{TellsAll, Told, told-still, Change}
 use Rattle.std.specs.Str.{chars}
 use Rattle.peers.specs.Told.{answered}
 use Rattle.peers.proofs.FrontLaws.{set-at}
@@ -14,6 +14,7 @@ use Rattle.peers.proofs.HomeStepLaws.{home-is}
 use Rattle.peers.proofs.MarksToldLaws.{marks-done}
 use Rattle.peers.proofs.NameLaws.{placed-window}
 use Rattle.peers.proofs.PromiseLaws.{value≢memory}
+use Rattle.peers.proofs.StillTextLaws.{still-text}
 use Rattle.peers.proofs.ToldLaws.{cells-done, still-cells}
 use Rattle.peers.proofs.WorldLaws.{all-at}
 
@@ -21,12 +22,12 @@ use Rattle.peers.proofs.WorldLaws.{all-at}
 
 -- the marks that are told where a command of this shape changed the document at a place
 pub marks-placed : (old new : World) (name : List ℕ) (words : List (List ℕ)) (place : ℕ) (shape : Shape)
-    (widget : Widget) (told : Told) → reading words ≡ Ok shape
+    (widget : Widget) (change : Change) (told : Told) → reading words ≡ Ok shape
     → widget_named name (document_at old.documents place) ≡ Some widget
-    → TellsAll (edits_text shape.command) (document_at old.documents place) (document_at new.documents place) widget
-    told
+    → TellsAll (edits_text shape.command) change (document_at old.documents place) (document_at new.documents place)
+    widget told
     → MarksTellAt old new name words (Some place) told.marks
-marks-placed old new name words place shape widget told read found tells =
+marks-placed old new name words place shape widget change told read found tells =
     let before = document_at old.documents place in let after = document_at new.documents place in
     let One : Type 0 = MarksTold name before after told.marks in
     let Each : Type 0 = (window : List ℕ) → widget_named window before ≡ Some widget →
@@ -42,8 +43,9 @@ pub peer-tells : (old new : World) (place position : ℕ) (arguments : List (Lis
     (made : Result Answer Fault) → place < length old.documents → Makes old new made
     (changed old place (peer_create old.limits (all_windows old) (document_at old.documents place) widget position
     arguments))
-    → IfOk (answered made)
-    (TellsAll false (document_at old.documents place) (document_at new.documents place) widget)
+    → IfOk (answered made) (TellsAll false
+    (peer_create old.limits (all_windows old) (document_at old.documents place) widget position arguments)
+    (document_at old.documents place) (document_at new.documents place) widget)
 peer-tells old new place position arguments widget (Err fault) within makes = tt
 peer-tells old new place position arguments widget (Ok answer) within makes =
     let document = document_at old.documents place in
@@ -51,9 +53,11 @@ peer-tells old new place position arguments widget (Ok answer) within makes =
     let is : document_at new.documents place ≡ made.document =
     ap (λ (w : World). document_at w.documents place) (makes.world (value≢memory (Ok answer) answer refl))
     ∙ set-at old.documents place made.document within in
-    subst (λ (d : Document). TellsAll false document d widget (record { answer = answer; edit = no_edit; marks = [] }))
-    (sym is) (record {
-      text = still-cells document made.document (cells-done old.limits (all_windows old) document widget PeerCreate []
+    subst (λ (d : Document).
+    TellsAll false made document d widget (record { answer = answer; edit = no_edit; marks = [] })) (sym is) (record {
+      text = still-cells made document made.document
+          (still-text old.limits (all_windows old) document widget PeerCreate [] position arguments (λ edit. edit))
+          (cells-done old.limits (all_windows old) document widget PeerCreate []
           position arguments (λ edit. edit) (λ edit. edit));
       marks = λ window found. told-still window document made.document (marks-done old.limits (all_windows old) document
           widget window found PeerCreate [] position arguments (λ edit. edit) (λ move. move));
@@ -102,7 +106,7 @@ unnamed old new words first (Ok answer) formed within is none =
     let name = chars (string_bytes first) in let absent = homeless old name formed none in
     let spelled = first-word words first within is in
     subst (λ ws. TellsOf old new ws no_edit × MarksTellOf old new ws []) (sym spelled.1) (
-      subst (λ at. TellsAt old new at no_edit) (sym absent) refl,
+      subst (λ at. TellsAt old new at (step old (name ∷ spelled.0)).edits no_edit) (sym absent) refl,
       subst (λ at. MarksTellAt old new name (name ∷ spelled.0) at []) (sym absent) refl,
     )
 
@@ -110,10 +114,13 @@ unnamed old new words first (Ok answer) formed within is none =
 pub named : {Z : Type 0} (old new : World) (words : List (String Z)) (first : String Z) → 0 < length words
     → first ≡ get_or words 0 first → (result : Result Told Fault)
     → let name = chars (string_bytes first) in let at = home name old.documents in
-    IfOk result (λ told. TellsAt old new at told.edit)
+    IfOk result (λ told. TellsAt old new at (step old (texts_of words)).edits told.edit)
     → IfOk result (λ told. TellsOf old new (texts_of words) told.edit)
 named old new words first within is result tells =
-    subst (λ ws. IfOk result (λ told. TellsOf old new ws told.edit)) (sym (first-word words first within is).1) tells
+    let name = chars (string_bytes first) in let spelled = first-word words first within is in
+    subst (λ ws. IfOk result (λ told. TellsOf old new ws told.edit)) (sym spelled.1)
+    (subst (λ ws. IfOk result (λ told. TellsAt old new (home name old.documents) (step old ws).edits told.edit))
+    spelled.1 tells)
 
 pub named-marks : {Z : Type 0} (old new : World) (words : List (String Z)) (first : String Z) → 0 < length words
     → first ≡ get_or words 0 first → (result : Result Told Fault)

@@ -253,6 +253,7 @@ module _ (world : World) (name : List ℕ) (settings : Settings) where
       else record {
         reply = Ok (Word 1);
         world = record world { documents = world.documents ++ new_document name settings ∷ [] };
+        edits = [];
       }
 
   abbrev by_name : Bool → Outcome
@@ -272,6 +273,7 @@ module _ (world : World) (name : List ℕ) (settings : Settings) where
       → create_named world name settings ≡ record {
         reply = Ok (Word 1);
         world = record world { documents = world.documents ++ new_document name settings ∷ [] };
+        edits = [];
       }
   named-new new few = ap by_name new ∙ ap by_count few
 

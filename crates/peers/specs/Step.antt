@@ -1,6 +1,7 @@
 -- One command of a script: the new world and an answer, or the first fault and the same world.
 use Rattle.std.specs.Prelude.{◌≡◌, ◌≢◌, ℕ, Bool, false, nat_le, nat_lt, List, [], ◌∷◌, ◌++◌, filter, length, map}
 use Rattle.std.specs.Prelude.{slice_set, Option, None, Some, Result, Ok, Err, IfErr, if◌then◌else◌}
+use Rattle.undo_stack.specs.declared.actions.Action.{Action}
 use Rattle.command_effects.specs.declared.answers.Answer.{Answer}
 use Rattle.command_effects.specs.declared.answers.Answer.TheVariants.{Empty, Word}
 use Rattle.command_effects.specs.declared.answers.Fault.{Fault}
@@ -22,13 +23,14 @@ use Rattle.peers.specs.World.{World, all_windows, document_at, home}
 use Rattle.peers.specs.Commands.{command, arguments_of, is_frugal_reading}
 use Rattle.peers.specs.Options.{settings_given}
 
--- the answer or the fault, and the world after the command
+-- the answer or the fault, the world after the command, and what the command did to the text of its widget, in order
 pub record Outcome : Type 0 where
   pub reply : Result Answer Fault
   pub world : World
+  pub edits : List Action
 
 abbrev pub refuses : World → Fault → Outcome
-refuses world fault = record { reply = Err fault; world = world }
+refuses world fault = record { reply = Err fault; world = world; edits = [] }
 
 -- A command makes what its definition says, unless memory is wanted. Where it is refused, it leaves the world as it
 -- was, and in any case well formed.
@@ -47,6 +49,7 @@ create_new world name settings =
     else record {
       reply = Ok (Word 1);
       world = record world { documents = world.documents ++ new_document name settings ∷ [] };
+      edits = [];
     }
 
 abbrev pub create_named : World → List ℕ → Settings → Outcome
@@ -78,6 +81,7 @@ abbrev pub destroy : World → List (List ℕ) → Outcome
 destroy world names = record {
   reply = Ok Empty;
   world = record world { documents = filter has_widgets (map (without_widgets names) world.documents) };
+  edits = [];
 }
 
 abbrev pub destroy_shaped : World → List (List ℕ) → Result Shape ShapeFault → Outcome
@@ -92,6 +96,7 @@ changed world place change =
     record {
       reply = change.reply;
       world = record world { documents = slice_set world.documents place change.document };
+      edits = change.edits;
     }
 
 abbrev pub on_found : World → ℕ → Document → List (List ℕ) → Option Widget → Outcome

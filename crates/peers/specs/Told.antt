@@ -1,14 +1,17 @@
 -- What is told of a command: what it changed of the text that its widget shows, and of the tags there.
 use Rattle.std.specs.Prelude.{◌≡◌, ℕ, Bool, true, List, [], ◌∷◌, Option, None, Some, Result, Ok, Err, IfOk}
 use Rattle.std.specs.Bool.{MatchBool}
+use Rattle.undo_stack.specs.declared.actions.Action.{Action}
 use Rattle.command_effects.specs.declared.answers.Answer.{Answer}
 use Rattle.command_effects.specs.declared.answers.Answer.TheVariants.{Empty}
 use Rattle.command_effects.specs.declared.answers.Fault.{Fault}
 use Rattle.documents.specs.Documents.{Document, KeyedCell, Widget}
 use Rattle.documents.specs.MarksTold.{MarksTold}
+use Rattle.documents.specs.Promise.{Change}
 use Rattle.documents.specs.Told.{TellsCells}
 use Rattle.documents.specs.Widgets.{widget_named}
 use Rattle.documents.specs.declared.told.EditTold.{EditTold}
+use Rattle.peers.specs.Step.{step}
 use Rattle.peers.specs.World.{World, document_at, home}
 use Rattle.peers.specs.declared.told.Told.{Told}
 
@@ -20,15 +23,16 @@ no_edit = record { changes = []; tags = [] }
 abbrev pub cells_at : World → ℕ → List KeyedCell
 cells_at world place = (document_at world.documents place).cells
 
--- what became of the document at a place; nothing is told where there is none
-abbrev pub TellsAt : World → World → Option ℕ → EditTold → Type 0
-TellsAt old new None told = told ≡ no_edit
-TellsAt old new (Some place) told = TellsCells (cells_at old place) (cells_at new place) told
+-- what became of the document at a place by edits; nothing is told where there is none
+abbrev pub TellsAt : World → World → Option ℕ → List Action → EditTold → Type 0
+TellsAt old new None edits told = told ≡ no_edit
+TellsAt old new (Some place) edits told = TellsCells edits (cells_at old place) (cells_at new place) told
 
 -- what a command of this first word changed, which names the widget if it is a widget's command
 abbrev pub TellsOf : World → World → List (List ℕ) → EditTold → Type 0
 TellsOf old new [] told = told ≡ no_edit
-TellsOf old new (name ∷ words) told = TellsAt old new (home name old.documents) told
+TellsOf old new (name ∷ words) told =
+    TellsAt old new (home name old.documents) (step old (name ∷ words)).edits told
 
 -- the answer among what was told, or the fault
 abbrev pub answer_of : Result Told Fault → Result Answer Fault
@@ -50,11 +54,12 @@ moved (Err fault) = Err fault
 
 -- what a command of a widget made of its document is told: the changes of the text and of its tags, and, of one that
 -- doesn't edit the text, the names of the marks that it moved
-pub record TellsAll (edits : Bool) (old new : Document) (widget : Widget) (told : Told) : Type 0 where
-  pub text : TellsCells old.cells new.cells told.edit
+pub record TellsAll (edits : Bool) (change : Change) (old new : Document) (widget : Widget) (told : Told) : Type 0 where
+  pub text : TellsCells change.edits old.cells new.cells told.edit
   pub marks : MatchBool edits (told.marks ≡ []) ((window : List ℕ) → widget_named window old ≡ Some widget
       → MarksTold window old new told.marks)
 
 -- who follows the text is told it, unless the command is refused
-abbrev pub AreTold : Bool → Bool → Document → Document → Widget → Result Told Fault → Type 0
-AreTold follows edits old new widget result = follows ≡ true → IfOk result (TellsAll edits old new widget)
+abbrev pub AreTold : Bool → Bool → Change → Document → Document → Widget → Result Told Fault → Type 0
+AreTold follows edits change old new widget result =
+    follows ≡ true → IfOk result (TellsAll edits change old new widget)

@@ -117,8 +117,15 @@ fn carry_out<S: TextStore>(
           position = call.entry.position;
           arguments = texts_of call.entry.arguments.now;
         })) }
-    ensures tells { AreTold call.entry.caller.follows (edits_text command) document.old document.new
-        (widget_at document.old call.entry.caller.seat) result }
+    ensures tells { (windows : List (List ℕ)) → let widget = widget_at document.old call.entry.caller.seat in
+        AreTold call.entry.caller.follows (edits_text command) (done command document.old (record {
+          limits = call.entry.caller.limits.now;
+          windows = windows;
+          widget = widget;
+          switches = texts_of call.entry.switches.now;
+          position = call.entry.position;
+          arguments = texts_of call.entry.arguments.now;
+        })) document.old document.new widget result }
     ensures frugal { is_frugal command ≡ true → result ≢ Err Memory }
 {
     let Call {
@@ -161,8 +168,10 @@ pub fn command<S: TextStore>(
     ensures does { (windows : List (List ℕ)) → Does caller.entry.limits.now document.old document.new
         (answer_of result) (command caller.entry.limits.now windows document.old
         (widget_at document.old caller.entry.seat) (texts_of words.now)) }
-    ensures tells { AreTold caller.entry.follows (edits_text shape.command) document.old document.new
-        (widget_at document.old caller.entry.seat) result }
+    ensures tells { (windows : List (List ℕ)) → let widget = widget_at document.old caller.entry.seat in
+        AreTold caller.entry.follows (edits_text shape.command)
+        (command caller.entry.limits.now windows document.old widget (texts_of words.now))
+        document.old document.new widget result }
     ensures frugal { is_frugal shape.command ≡ true → result ≢ Err Memory }
 {
     let call = Call {

@@ -26,7 +26,9 @@ fn delete_found<S: TextStore>(
     ensures does { let widget = widget_at document.old caller.now.seat in
         (limits : LimitTable) → Does limits document.old document.new (reply_of result)
         (unless_idle widget document.old (delete_places document.old widget places.now)) }
-    ensures told { IsTold caller.now.follows document.old document.new result }
+    ensures told { let widget = widget_at document.old caller.now.seat in IsTold caller.now.follows
+        (unless_idle widget document.old (delete_places document.old widget places.now))
+        document.old document.new result }
 {
     if document.is_idle(caller.seat) {
         return Ok(EditTold::nothing(document.allocator()));
@@ -45,7 +47,9 @@ pub fn delete<S: TextStore>(
     requires near { position + length arguments.now ≤ usize.MAX }
     ensures does { (limits : LimitTable) → Does limits document.old document.new (reply_of result)
         (delete document.old (widget_at document.old caller.now.seat) position (texts_of arguments.now)) }
-    ensures told { IsTold caller.now.follows document.old document.new result }
+    ensures told { IsTold caller.now.follows
+        (delete document.old (widget_at document.old caller.now.seat) position (texts_of arguments.now))
+        document.old document.new result }
 {
     let places = places_at(document, caller.seat, position, arguments)?;
     delete_found(document, caller, &places)
@@ -65,7 +69,9 @@ fn replace_places<S: TextStore>(
     ensures does { Does caller.now.limits.now document.old document.new (reply_of result)
         (replace_places caller.now.limits.now document.old (widget_at document.old caller.now.seat) second places.0
         places.1 pairs.items) }
-    ensures told { IsTold caller.now.follows document.old document.new result }
+    ensures told { IsTold caller.now.follows
+        (replace_places caller.now.limits.now document.old (widget_at document.old caller.now.seat) second places.0
+        places.1 pairs.items) document.old document.new result }
 {
     let (from, to) = places;
     if to < from {
@@ -90,7 +96,9 @@ pub fn replace<S: TextStore>(
     ensures does { Does caller.now.limits.now document.old document.new (reply_of result)
         (replace caller.now.limits.now document.old (widget_at document.old caller.now.seat) position
         (texts_of arguments.now)) }
-    ensures told { IsTold caller.now.follows document.old document.new result }
+    ensures told { IsTold caller.now.follows
+        (replace caller.now.limits.now document.old (widget_at document.old caller.now.seat) position
+        (texts_of arguments.now)) document.old document.new result }
 {
     let (first, second, words) = first_two(arguments)?;
     let from = document.place_at(caller.seat, position, first)?;

@@ -27,7 +27,9 @@ pub fn tag_add<S: TextStore>(
     ensures does { Does caller.now.limits.now document.old document.new (reply_of result)
         (tag_add caller.now.limits.now document.old (widget_at document.old caller.now.seat) position
         (texts_of arguments.now)) }
-    ensures told { IsTold caller.now.follows document.old document.new result }
+    ensures told { IsTold caller.now.follows
+        (tag_add caller.now.limits.now document.old (widget_at document.old caller.now.seat) position
+        (texts_of arguments.now)) document.old document.new result }
 {
     let (name, words) = first(arguments)?;
     let places = places_at(document, caller.seat, position + 1, words)?;
@@ -45,7 +47,9 @@ pub fn tag_remove<S: TextStore>(
     requires near { position + length arguments.now ≤ usize.MAX }
     ensures does { (limits : LimitTable) → Does limits document.old document.new (reply_of result)
         (tag_remove document.old (widget_at document.old caller.now.seat) position (texts_of arguments.now)) }
-    ensures told { IsTold caller.now.follows document.old document.new result }
+    ensures told { IsTold caller.now.follows
+        (tag_remove document.old (widget_at document.old caller.now.seat) position (texts_of arguments.now))
+        document.old document.new result }
 {
     let (name, words) = first(arguments)?;
     let places = places_at(document, caller.seat, position + 1, words)?;

@@ -30,7 +30,9 @@ fn insert_pairs<S: TextStore>(
         Does caller.now.limits.now document.old document.new (reply_of result)
         (unless_idle widget document.old (insert_at caller.now.limits.now document.old widget
         (insertion_offset document.old widget place) pairs.items)) }
-    ensures told { IsTold caller.now.follows document.old document.new result }
+    ensures told { let widget = widget_at document.old caller.now.seat in IsTold caller.now.follows
+        (unless_idle widget document.old (insert_at caller.now.limits.now document.old widget
+        (insertion_offset document.old widget place) pairs.items)) document.old document.new result }
 {
     if document.is_idle(caller.seat) {
         return Ok(EditTold::nothing(document.allocator()));
@@ -51,7 +53,9 @@ pub fn insert<S: TextStore>(
     ensures does { Does caller.now.limits.now document.old document.new (reply_of result)
         (insert caller.now.limits.now document.old (widget_at document.old caller.now.seat) position
         (texts_of arguments.now)) }
-    ensures told { IsTold caller.now.follows document.old document.new result }
+    ensures told { IsTold caller.now.follows
+        (insert caller.now.limits.now document.old (widget_at document.old caller.now.seat) position
+        (texts_of arguments.now)) document.old document.new result }
 {
     let (index, words) = first(arguments)?;
     let place = document.place_at(caller.seat, position, index)?;

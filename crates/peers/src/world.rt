@@ -236,7 +236,8 @@ impl<S: TextStore> World<S> {
         requires ordered { shape.switches ≤ shape.arguments }
         ensures makes { Makes self.old self.new (answer_of result)
             (on_home self.old (chars name.now) (texts_of words.now) (Some place)) }
-        ensures tells { follows ≡ true → IfOk result (λ told. TellsAt self.old self.new (Some place) told.edit) }
+        ensures tells { follows ≡ true → IfOk result (λ told. TellsAt self.old self.new (Some place)
+            (on_home self.old (chars name.now) (texts_of words.now) (Some place)).edits told.edit) }
         ensures marks { follows ≡ true → IfOk result (λ told.
             MarksTellAt self.old self.new (chars name.now) (texts_of words.now) (Some place) told.marks) }
         ensures frugal { is_frugal shape.command ≡ true → result ≢ Err Fault.Memory }
@@ -267,7 +268,8 @@ impl<S: TextStore> World<S> {
         ensures makes { Makes self.old self.new (answer_of result)
             (on_widget self.old (chars name.now) (texts_of words.now)) }
         ensures tells { follows ≡ true → IfOk result (λ told.
-            TellsAt self.old self.new (home (chars name.now) self.old.documents) told.edit) }
+            TellsAt self.old self.new (home (chars name.now) self.old.documents)
+            (on_widget self.old (chars name.now) (texts_of words.now)).edits told.edit) }
         ensures marks { follows ≡ true → IfOk result (λ told. MarksTellAt self.old self.new (chars name.now)
             (texts_of words.now) (home (chars name.now) self.old.documents) told.marks) }
         ensures frugal { is_frugal_reading (reading (texts_of words.now)) ≡ true → result ≢ Err Fault.Memory }

@@ -1,11 +1,11 @@
-use Rattle.std.proofs.Common.{◌++◌, ◌∷◌, [], ap, ◌∙◌}
-use Rattle.edit_ops.specs.Told.{putting, taking_out}
+use Rattle.std.proofs.Common.{◌++◌, ap, sym, subst, ◌∙◌}
+use Rattle.edit_ops.specs.Told.{replacing, AreHunks}
 use Rattle.edit_ops.proofs.HunkLaws.{replacing-stand}
 use Rattle.command_tests.proofs.told.replacing.Goals as goal
 
 pub returns : goal.returns
 returns c = λ len within.
-    let texts = c.new.result ∷ [] in
-    replacing-stand c.args.from c.args.to len texts c.push_removal.new.hunks.items c.requires within
-    (c.in_ok-push_removal.ensures ∙ ap (λ hs. hs ++ taking_out c.args.from c.args.to)
-    (c.in_ok-push_text.ensures ∙ ap (λ hs. hs ++ putting c.args.from texts) c.new-hunks.ensures.items))
+    let hunk = replacing c.args.from c.args.to c.new-text.result in
+    subst (AreHunks 0 len)
+    (sym (c.in_ok-push_replacement.ensures ∙ ap (λ hs. hs ++ hunk) c.new-hunks.ensures.items))
+    (replacing-stand c.args.from c.args.to len c.new-text.result c.requires within)

@@ -1,5 +1,5 @@
 use Rattle.edit_ops.proofs.Common.{arith}
-use Rattle.edit_ops.proofs.CursorTextLaws.{put-cells, put-fits, put-makes}
+use Rattle.edit_ops.proofs.CursorTextLaws.{put-acts, put-cells, put-fits, put-makes}
 use Rattle.edit_ops.proofs.replaying.put_text.Goals as goal
 
 pub seek-requires-clause-within : goal.seek-requires-clause-within
@@ -29,3 +29,7 @@ pub returns-clause-cells : goal.returns-clause-cells
 returns-clause-cells g c =
     put-cells c.requires.stands c.in_ok-seek.ensures.moves c.in_ok-seek.ensures.there c.in_ok-put.ensures
     c.shared-slots.ensures
+
+pub returns-clause-acts : goal.returns-clause-acts
+returns-clause-acts g c =
+    put-acts c.requires.stands c.in_ok-seek.ensures.moves c.in_ok-seek.ensures.there c.in_ok-put.ensures

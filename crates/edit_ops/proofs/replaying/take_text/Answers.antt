@@ -1,5 +1,5 @@
 use Rattle.edit_ops.proofs.Common.{arith}
-use Rattle.edit_ops.proofs.CursorTextLaws.{take-cells, take-fits, take-makes}
+use Rattle.edit_ops.proofs.CursorTextLaws.{take-acts, take-cells, take-fits, take-makes}
 use Rattle.edit_ops.proofs.replaying.take_text.Goals as goal
 
 pub seek-requires-clause-within : goal.seek-requires-clause-within
@@ -24,4 +24,9 @@ returns-clause-makes g c =
 pub returns-clause-cells : goal.returns-clause-cells
 returns-clause-cells g c =
     take-cells c.args.text.now c.requires.stands c.in_ok-seek.ensures.moves c.in_ok-seek.ensures.there
+    c.in_ok-remove.ensures.takes c.in_ok-remove.ensures.len c.count_of-count.ensures c.requires.fits
+
+pub returns-clause-acts : goal.returns-clause-acts
+returns-clause-acts g c =
+    take-acts c.args.text.now c.requires.stands c.in_ok-seek.ensures.moves c.in_ok-seek.ensures.there
     c.in_ok-remove.ensures.takes c.in_ok-remove.ensures.len c.count_of-count.ensures c.requires.fits

@@ -13,11 +13,11 @@ pub tell-requires-clause-short : goal.tell-requires-clause-short
 tell-requires-clause-short g c = let short = c.self.invariant.kept.short in omega (arith, short)
 
 pub returns : goal.returns
-returns g c = λ cells tags.
+returns g c = λ edits cells of tags.
     let document = c.args.self.now in
     let hunks = c.args.hunks.items in
     let changes = c.in_ok-changes.changes in
     let same = characters-kept (parts_of g.S.TextStore.content c.self.inside) document c.self.view_is in
-    hunks-tell document.cells cells hunks (record { changes = changes; tags = c.args.tags }) c.requires.stand
+    hunks-tell edits document.cells cells hunks (record { changes = changes; tags = c.args.tags }) of
     (c.in_ok-changes.ensures.changes ∙ ap (λ text. hunk_changes text hunks) (sym same))
     (subst (λ (text : List ℕ). Tells changes text (patched 0 hunks text)) (sym same) c.in_ok-changes.ensures.tells) tags

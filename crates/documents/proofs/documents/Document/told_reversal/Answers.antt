@@ -1,9 +1,10 @@
 use Rattle.documents.proofs.Common.{List, [], ℕ, IsSome, ap, refl, subst, sym, ◌∙◌, repeated_group, replays, State}
-use Rattle.documents.proofs.Common.{state_of, Document, group_again, parts_of, key_pairs, slot_changes, characters}
-use Rattle.documents.proofs.PartsLaws.{characters-kept}
+use Rattle.documents.proofs.Common.{AreHunksOf, length, state_of, Document, group_again, parts_of, key_pairs}
+use Rattle.documents.proofs.Common.{slot_changes, characters}
+use Rattle.documents.proofs.PartsLaws.{cells-kept, characters-kept}
 use Rattle.documents.proofs.ToldLaws.{reversal-tells}
 use Rattle.documents.proofs.documents.Document.told_reversal.Given.{Over}
-use Rattle.documents.proofs.documents.Document.told_reversal.Goals.{After-chars-limit}
+use Rattle.documents.proofs.documents.Document.told_reversal.Goals.{After-chars-limit, In_ok-made}
 use Rattle.text_model.specs.Content as model
 use Rattle.documents.proofs.documents.Document.told_reversal.Goals as goal
 
@@ -20,6 +21,17 @@ fits g c =
 pub reversal_of-requires : goal.reversal_of-requires
 reversal_of-requires g c = record { fits = fits g (goal.at.reversal_of-requires g c).After-chars-limit }
 
+-- the hunks are exactly what the actions do
+exact : (g : Over) (c : In_ok-made g)
+    → AreHunksOf (replays c.args.back c.args.group.now) (length c.args.self.now.cells) c.in_ok-made.made.hunks.items
+exact g c =
+    subst (λ n. AreHunksOf (replays c.args.back c.args.group.now) n c.in_ok-made.made.hunks.items)
+    (sym (cells-kept (parts_of g.S.TextStore.content c.self.inside) c.args.self.now c.self.view_is))
+    c.in_ok-made.ensures.exact
+
+pub tell_hunks-requires : goal.tell_hunks-requires
+tell_hunks-requires g c = record { stand = (exact g (goal.at.tell_hunks-requires g c).In_ok-made).stand }
+
 pub returns : goal.returns
 returns g c = λ follows.
     let document = c.args.self.now in
@@ -29,7 +41,7 @@ returns g c = λ follows.
     let state : State = state_of parts.content [] parts.journal.log in
     let ps = key_pairs parts.seats.entries parts.tags.tags in
     let made = c.in_ok-made.made in
-    c.in_ok-tell_hunks.ensures (group_again actions document).cells
+    c.in_ok-tell_hunks.ensures actions (group_again actions document).cells (exact g (goal.at.returns g c).In_ok-made)
     (reversal-tells parts.seats.entries parts.tags kept.seats kept.tags c.chars-limit.result actions state document
     made.hunks.items made.runs.items c.in_ok-tags.tags (ap (λ (d : Document). d.cells) (sym c.self.view_is))
     (fits g (goal.at.returns g c).After-chars-limit)

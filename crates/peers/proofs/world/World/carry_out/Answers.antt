@@ -1,7 +1,7 @@
 use Rattle.peers.proofs.Common.{◌≡◌, true, false, sym, ap, ◌∙◌, subst, true≢false, IfOk, chars, string_bytes, texts_of}
 use Rattle.peers.proofs.Common.{is_same, literal, reading, Makes, step, create_shaped, destroy_shaped, on_widget}
 use Rattle.peers.proofs.Common.{TellsOf, MarksTellOf, TellsAt, MarksTellAt, answer_of, IsWellFormed, home, IfOk-weaker}
-use Rattle.peers.proofs.Common.{is_frugal_reading, are_frugal}
+use Rattle.peers.proofs.Common.{is_frugal_reading, are_frugal, Outcome}
 use Rattle.peers.specs.Told.{answered}
 use Rattle.peers.proofs.ToldLaws.{answer-answered}
 use Rattle.peers.proofs.ToldStepLaws.{destroy-none, destroy-step as destroys, named, named-marks, text-none, text-step}
@@ -134,10 +134,15 @@ returns-else-is_word-2-clause-makes g c =
 
 pub returns-else-is_word-2-clause-tells : goal.returns-else-is_word-2-clause-tells
 returns-else-is_word-2-clause-tells g c = λ follows.
-    let world = c.args.self.now in let new = c.on_widget.new.self in
+    let world = c.args.self.now in let new = c.on_widget.new.self in let words = texts_of c.args.words.now in
+    let name = chars (string_bytes c.name-item.result) in
     named world new c.args.words.now c.name-item.result c.in-len1-up.len_at_least c.name-item.is c.on_widget.result
-    (subst (λ bytes. IfOk c.on_widget.result (λ told. TellsAt world new (home (chars bytes) world.documents) told.edit))
-    c.as_str-name.ensures.value (c.on_widget.ensures.tells follows))
+    (subst (λ (o : Outcome). IfOk c.on_widget.result (λ told.
+    TellsAt world new (home name world.documents) o.edits told.edit))
+    (sym (widget g (goal.at.returns-else-is_word-2-clause-tells g c).After-on_widget).0)
+    (subst (λ bytes. IfOk c.on_widget.result (λ told. TellsAt world new (home (chars bytes) world.documents)
+    (on_widget world (chars bytes) words).edits told.edit))
+    c.as_str-name.ensures.value (c.on_widget.ensures.tells follows)))
 
 pub returns-else-is_word-2-clause-marks : goal.returns-else-is_word-2-clause-marks
 returns-else-is_word-2-clause-marks g c = λ follows.

@@ -2,7 +2,7 @@ use Rattle.peers.proofs.Common.{arguments_of, ◌≡◌, ◌<◌, Some, true, fa
 use Rattle.peers.proofs.Common.{◌∙◌, arith, IfOk, MarksTellAt, TellsAt, answer_of, edits_text, on_home, IfErr, chars}
 use Rattle.peers.proofs.Common.{texts_of, Document, widget_at, Does, IsWellFormedDocument, widget_named, command}
 use Rattle.peers.proofs.Common.{peer_create, Makes, Outcome, changed, on_found, World, all_windows, document_at, home}
-use Rattle.peers.proofs.Common.{windows_of, TellsAll, IfOk-weaker}
+use Rattle.peers.proofs.Common.{windows_of, TellsAll, IfOk-weaker, Change}
 use Rattle.peers.specs.Told.{answered}
 use Rattle.peers.proofs.ArgumentLaws.{arguments-part}
 use Rattle.peers.proofs.FrontLaws.{set-at}
@@ -111,8 +111,12 @@ returns-in-PeerCreate-clause-makes g c =
 
 -- what is told of a peer that is made
 peer : (g : _) (c : After-create_peer-made g) → c.args.place < length c.self.inside.documents.list.items
-    → IfOk (answered c.create_peer-made.result) (TellsAll false (document_at c.args.self.now.documents c.args.place)
-    (document_at c.create_peer-made.new.self.documents c.args.place)
+    → IfOk (answered c.create_peer-made.result) (TellsAll false
+    (peer_create c.args.self.now.limits (all_windows c.args.self.now)
+    (document_at c.args.self.now.documents c.args.place)
+    (widget_at (document_at c.args.self.now.documents c.args.place) c.in-Some.seat) c.args.shape.arguments
+    (arguments_of c.args.shape (texts_of c.args.words.now)))
+    (document_at c.args.self.now.documents c.args.place) (document_at c.create_peer-made.new.self.documents c.args.place)
     (widget_at (document_at c.args.self.now.documents c.args.place) c.in-Some.seat))
 peer g c within =
     let world = c.args.self.now in let place = c.args.place in let shape = c.args.shape in
@@ -126,9 +130,24 @@ peer g c within =
 pub returns-in-PeerCreate-clause-tells : goal.returns-in-PeerCreate-clause-tells
 returns-in-PeerCreate-clause-tells g c = λ _.
     let at = goal.at.returns-in-PeerCreate-clause-tells g c in let place = Some c.args.place in
-    subst (λ told. IfOk told (λ told. TellsAt c.args.self.now c.create_peer-made.new.self place told.edit))
-    (sym c.answered.ensures) (IfOk-weaker (answered c.create_peer-made.result) _ _ (λ told tells. tells.text)
-    (peer g at.After-create_peer-made (here g at.After-index).within))
+    let world = c.args.self.now in let name = chars c.args.name.now in let words = texts_of c.args.words.now in
+    let seat = c.in-Some.seat in let document = document_at world.documents c.args.place in
+    let read = (here g at.After-index).read ∙ ap (λ (w : World). document_at w.documents c.args.place) c.self.view_is in
+    let named : widget_named name document ≡ Some (widget_at document seat) =
+    subst (λ (d : Document). widget_named name d ≡ Some (widget_at d seat)) read c.in-Some.ensures.some in
+    let change = peer-command world.limits (all_windows world) document (widget_at document seat) words c.args.shape
+    c.requires.shape c.in-PeerCreate.is in
+    let step = found-change world c.args.place document words (widget_named name document) (widget_at document seat)
+    named in
+    let edits : (on_home world name words (Some c.args.place)).edits ≡ (peer_create world.limits (all_windows world)
+    document (widget_at document seat) c.args.shape.arguments (arguments_of c.args.shape words)).edits =
+    ap (λ (o : Outcome). o.edits) step ∙ ap (λ (made : Change). made.edits) change in
+    subst (λ told. IfOk told (λ told. TellsAt world c.create_peer-made.new.self place
+    (on_home world name words (Some c.args.place)).edits told.edit)) (sym c.answered.ensures)
+    (subst (λ made. IfOk (answered c.create_peer-made.result) (λ told.
+    TellsAt world c.create_peer-made.new.self place made told.edit)) (sym edits)
+    (IfOk-weaker (answered c.create_peer-made.result) _ _ (λ told tells. tells.text)
+    (peer g at.After-create_peer-made (here g at.After-index).within)))
 
 pub returns-in-PeerCreate-clause-marks : goal.returns-in-PeerCreate-clause-marks
 returns-in-PeerCreate-clause-marks g c = λ _.
@@ -139,27 +158,34 @@ returns-in-PeerCreate-clause-marks g c = λ _.
     let read = (here g at.After-index).read ∙ ap (λ (w : World). document_at w.documents c.args.place) c.self.view_is in
     let named : widget_named name document ≡ Some (widget_at document seat) =
     subst (λ (d : Document). widget_named name d ≡ Some (widget_at d seat)) read c.in-Some.ensures.some in
+    let change = peer_create world.limits (all_windows world) document (widget_at document seat) c.args.shape.arguments
+    (arguments_of c.args.shape words) in
     subst (λ told. IfOk told (λ told. MarksTellAt world new name words place told.marks)) (sym c.answered.ensures)
     (IfOk-weaker (answered c.create_peer-made.result) _ _ (λ told tells.
-    marks-placed world new name words c.args.place c.args.shape (widget_at document seat) told c.requires.shape named
-    (subst (λ command. TellsAll (edits_text command) document (document_at new.documents c.args.place)
+    marks-placed world new name words c.args.place c.args.shape (widget_at document seat) change told c.requires.shape
+    named (subst (λ command. TellsAll (edits_text command) change document (document_at new.documents c.args.place)
     (widget_at document seat) told) (sym c.in-PeerCreate.is) tells))
     (peer g at.After-create_peer-made (here g at.After-index).within))
 
 -- what the command tells of that document, as it stands in the world afterwards
 tells : (g : _) (c : After-command g) → (within : c.args.place < length c.self.inside.documents.list.items)
     → c.args.follows ≡ true → IfOk c.command.result (TellsAll (edits_text c.args.shape.command)
+    (command c.self.inside.limits (windows_of c.self.inside.documents.list.items)
     (document_at c.self.inside.documents.list.items c.args.place)
+    (widget_at (document_at c.self.inside.documents.list.items c.args.place) c.in-Some.seat)
+    (texts_of c.args.words.now)) (document_at c.self.inside.documents.list.items c.args.place)
     (document_at (slice_set c.self.inside.documents.list.items c.args.place c.command.new.document) c.args.place)
     (widget_at (document_at c.self.inside.documents.list.items c.args.place) c.in-Some.seat))
 tells g c within follows =
     let documents = c.self.inside.documents.list.items in let old = document_at documents c.args.place in
     let new = c.command.new.document in let edits = edits_text c.args.shape.command in
-    subst (λ (d : Document). IfOk c.command.result (TellsAll edits old d (widget_at old c.in-Some.seat)))
+    let change : Document → Change = λ d. command c.self.inside.limits (windows_of documents) d
+    (widget_at d c.in-Some.seat) (texts_of c.args.words.now) in
+    subst (λ (d : Document). IfOk c.command.result (TellsAll edits (change old) old d (widget_at old c.in-Some.seat)))
     (sym (set-at documents c.args.place new within))
-    (subst (λ (d : Document). IfOk c.command.result (TellsAll edits d new (widget_at d c.in-Some.seat)))
+    (subst (λ (d : Document). IfOk c.command.result (TellsAll edits (change d) d new (widget_at d c.in-Some.seat)))
     (read-is documents c.args.place c.index_mut.result.now within c.index_mut.ensures.value)
-    (c.command.ensures.tells follows))
+    (c.command.ensures.tells (windows_of documents) follows))
 
 pub returns-in_default-command : goal.returns-in_default-command
 returns-in_default-command g c =
@@ -188,14 +214,18 @@ returns-in_default-command g c =
       };
       tells = λ follows. subst (λ (w : World). IfOk c.command.result (λ told.
           TellsAt w (with_all limits (slice_set documents c.args.place c.command.new.document)) (Some c.args.place)
-          told.edit)) c.self.view_is (IfOk-weaker c.command.result _ _ (λ told all. all.text)
-          (tells g (goal.at.returns-in_default-command g c).After-command at.within follows));
+          (after w).edits told.edit)) c.self.view_is
+          (subst (λ edits. IfOk c.command.result (λ told. TellsAt (with_all limits documents)
+          (with_all limits (slice_set documents c.args.place c.command.new.document)) (Some c.args.place) edits
+          told.edit)) (sym (ap (λ (o : Outcome). o.edits) step))
+          (IfOk-weaker c.command.result _ _ (λ told all. all.text)
+          (tells g (goal.at.returns-in_default-command g c).After-command at.within follows)));
       marks = λ follows. subst (λ (w : World). IfOk c.command.result (λ told.
           MarksTellAt w (with_all limits (slice_set documents c.args.place c.command.new.document)) name words
           (Some c.args.place) told.marks)) c.self.view_is (IfOk-weaker c.command.result _ _ (λ told all.
           marks-placed (with_all limits documents)
           (with_all limits (slice_set documents c.args.place c.command.new.document)) name words c.args.place
-          c.args.shape (widget_at old seat) told c.requires.shape named all)
+          c.args.shape (widget_at old seat) _ told c.requires.shape named all)
           (tells g (goal.at.returns-in_default-command g c).After-command at.within follows));
       frugal = c.command.ensures.frugal;
     }

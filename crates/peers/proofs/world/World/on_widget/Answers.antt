@@ -56,7 +56,8 @@ there g c =
 pub returns-in-Ok-clause-tells : goal.returns-in-Ok-clause-tells
 returns-in-Ok-clause-tells g c =
     subst (λ at. c.args.follows ≡ true → IfOk c.on_document.result (λ told.
-    TellsAt c.args.self.now c.on_document.new.self at told.edit))
+    TellsAt c.args.self.now c.on_document.new.self at
+    (on_home c.args.self.now (chars c.args.name.now) (texts_of c.args.words.now) at).edits told.edit))
     (sym (there g (goal.at.returns-in-Ok-clause-tells g c).After-on_document)) c.on_document.ensures.tells
 
 pub returns-in-Ok-clause-marks : goal.returns-in-Ok-clause-marks
