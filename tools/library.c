@@ -315,8 +315,8 @@ static void check_tags(void)
     tktext_report_new(&report);
     tktext_call_words(&world, WORDS("text", ".t", "-undo", "1"));
     check(call_told(&world, ".tinsert1.0abcb sel", LENGTHS(2, 6, 3, 3, 5)) == TKTEXT_ANSWER && tktext_told(&report) == 1
-          && tktext_told_tags(&report) == 2 && tag_is(0, "b", "", 0, 3, 1)
-          && tag_is(1, "sel", ".t", 0, 3, 1), "the tags of a list");
+          && tktext_told_tags(&report) == 2 && tag_is(0, "sel", ".t", 0, 3, 1)
+          && tag_is(1, "b", "", 0, 3, 1), "the tags of a list");
     check(call_told(&world, ".tdelete1.1end", LENGTHS(2, 6, 3, 3)) == TKTEXT_ANSWER && tktext_told(&report) == 1
           && tktext_told_tags(&report) == 0, "tags that go with their characters");
     check(call_told(&world, ".ttagaddb1.0end", LENGTHS(2, 3, 3, 1, 3, 3)) == TKTEXT_ANSWER && tktext_told(&report) == 0

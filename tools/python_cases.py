@@ -564,7 +564,7 @@ show((peer.tag_add("sel", "1.0"), text.tag_raise("sel"), text.mark_set("m", "1.1
 end()
 show((tried(text.insert, "nowhere", "a", "q"), text.insert("1.0", "a", "q")))
 """
-TAGGED_SAYS = """None [[('b', 0, 3, True), ('sel', 0, 3, True)], 1]
+TAGGED_SAYS = """None [[('sel', 0, 3, True), ('b', 0, 3, True)], 1]
 None [[('sel', 1, 2, True), ('b', 1, 2, True)], 1]
 None [[('b', 4, 8, True)], 1]
 None []

@@ -137,7 +137,7 @@ peer {y 0 1 1}
 tags {y 0 1 1}
 peer {y 1 2 1}
 t {1 0 ab}
-tags {y 1 2 1} {sel 1 2 1}
+tags {sel 1 2 1} {y 1 2 1}
 peer {y 0 2 0}
 tags {y 0 2 0}
 t {1 2 {}}

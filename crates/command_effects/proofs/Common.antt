@@ -3,7 +3,6 @@ pub use Rattle.std.proofs.Common.{[], ap₂, true≢false, ℕ, ℤ, ◌&&◌, �
 pub use Rattle.std.proofs.Common.{◌⊎◌, Bool, Global, List, None, Ok, Option, Some, Vec, ap, append_assoc, arith, chars}
 pub use Rattle.std.proofs.Common.{cond, drop, eqb-true, false, filter, get_or, inl, inr, length, length-drop, map, not}
 pub use Rattle.std.proofs.Common.{refl, slice_get, subst, suc, sym, take, true, w32, zero}
-pub use Rattle.command_effects.specs.Edits.{excess, length_replaced, without_widget, without_widgets}
 pub use Rattle.command_effects.specs.Faults.{with_value}
 pub use Rattle.command_effects.specs.Lists.{Pair, all_names, and_pairs, listed_names, pair_at, pairs_at, total}
 pub use Rattle.command_effects.specs.Lists.{total_bytes, with_name, with_names}
@@ -14,11 +13,10 @@ pub use Rattle.command_effects.specs.Tagging.{IsFront, own_slot, piece_of, slot_
 pub use Rattle.command_effects.specs.Tagging.{stays, tags_left, with_found}
 pub use Rattle.command_effects.specs.Words.{is_among, is_same, literal}
 pub use Rattle.command_effects.specs.declared.answers.Fault.{Fault}
-pub use Rattle.command_effects.specs.declared.answers.Fault.TheVariants.{BadInteger, TextTooLong, TooManyTags}
-pub use Rattle.edit_ops.specs.States.{state_in}
+pub use Rattle.command_effects.specs.declared.answers.Fault.TheVariants.{BadInteger}
 pub use Rattle.mark_table.specs.SharedMarks.{Mark, SharedMarks, number_of}
 pub use Rattle.name_list.specs.Moves.{without}
-pub use Rattle.std.proofs.lemmas.Bool.{false_from_ne_true, le-ltb, lt-ltb, or_right}
+pub use Rattle.std.proofs.lemmas.Bool.{false_from_ne_true, or_right}
 pub use Rattle.std.proofs.lemmas.Bool.Decides.{nat_tests}
 pub use Rattle.std.proofs.lemmas.List.{append-nil, drop-map, get_or-map, length-append, length-map, map-append}
 pub use Rattle.std.proofs.lemmas.List.{take-append-drop, take-append-le, take-take, take_all, take_more, take_rest}
@@ -26,7 +24,6 @@ pub use Rattle.std.proofs.lemmas.List.Elements.{All-cons, All-drop, All-head, Al
 pub use Rattle.std.proofs.lemmas.List.Elements.{All-take, filter_map-append}
 pub use Rattle.std.proofs.lemmas.List.Folds.{find-append, list_any-append}
 pub use Rattle.std.proofs.lemmas.Option.{get_or_from_slice_get, none-some, same_Some, slice_get_within}
-pub use Rattle.std.proofs.lemmas.Result.{IfErr-weaker, on_ok_weaker}
 pub use Rattle.std.proofs.lemmas.Slice.Eq.{bytes_eq-Decides}
 pub use Rattle.std.proofs.lemmas.Str.{chars-IsAscii, chars-nil, encodes-chars, length-le-encodes}
 pub use Rattle.std.specs.Char.{IsScalar}
@@ -44,11 +41,9 @@ pub use Rattle.tcl_words.specs.Unread.{texts_of}
 pub use Rattle.text_index.proofs.RangeLaws.{range-unset, ranges_from-first}
 pub use Rattle.text_index.specs.Positions.{position_text}
 pub use Rattle.text_index.specs.Views.{shown, shown_flags}
-pub use Rattle.text_model.proofs.TextLaws.{chars-scalars}
 pub use Rattle.text_model.specs.Content.{Content, Slots}
 pub use Rattle.text_model.specs.Steps.{Fits, after, after_step}
 pub use Rattle.text_model.specs.TagBits.{slot_count}
 pub use Rattle.text_model.specs.declared.edits.Step.TheVariants.{ClearSlot, TakeMark}
 pub use Rattle.text_model.specs.declared.places.MarkNo.{MarkNo}
 pub use Rattle.text_model.specs.declared.places.TagSlot.{TagSlot}
-pub use Rattle.undo_stack.specs.declared.actions.Action.{Action}

@@ -2,7 +2,8 @@
 use Rattle.command_effects.proofs.Common.{◌≡◌, ℕ, ◌+◌, ◌<◌, List, [], ◌∷◌, ◌++◌, length, map, take, refl, sym, ap, ◌∙◌}
 use Rattle.command_effects.proofs.Common.{arith, append_assoc, map-append, ClearSlot, TakeMark, MarkNo, Content, Fits}
 use Rattle.command_effects.proofs.Common.{after, after_step, taken, ◌*◌, All, All-head, All-tail, slot_count, TagSlot}
-use Rattle.command_effects.proofs.Common.{without_widgets, without_widget, get_or, take_more}
+use Rattle.command_effects.proofs.Common.{get_or, take_more}
+use Rattle.command_effects.specs.Edits.{without_widgets, without_widget}
 use Rattle.text_model.specs.declared.edits.Step.{Step}
 use Rattle.text_model.specs.declared.limits.TheConstants.Limits.{MOST_WIDGETS}
 

@@ -1,8 +1,9 @@
 ghost use Rattle.std.specs.Prelude.{◌≡◌};
 ghost use Rattle.command_effects.specs.declared.answers.Fault.TheVariants.{Memory};
-ghost use Rattle.command_effects.specs.Faults.{index_fault, shape_fault};
+ghost use Rattle.command_effects.specs.Faults.{edit_fault, index_fault, shape_fault};
 
 use command_table::ShapeFault;
+use edit_ops::EditFault;
 use std::alloc::{AllocError, AllocFailed};
 use text_index::IndexFault;
 use text_model::Text;
@@ -122,6 +123,18 @@ impl From<AllocError> for Fault {
 
     fn from(_refused: AllocError) -> Fault {
         Fault::Memory
+    }
+}
+
+impl From<EditFault> for Fault {
+    ghost from_gives = { λ refused fault. fault ≡ edit_fault refused };
+
+    /// An edit is refused for the length of the text or for memory: the order of its indices is known before.
+    fn from(refused: EditFault) -> Fault {
+        match refused {
+            EditFault::TextTooLong => Fault::TextTooLong,
+            _ => Fault::Memory,
+        }
     }
 }
 

@@ -1,27 +1,19 @@
-ghost use Rattle.std.specs.Prelude.{◌≡◌, ◌≢◌, ◌∷◌, ◌+◌, ◌*◌, ◌<◌, ◌≤◌, [], length, map, OnOk, OnErr, IfOk, IfErr};
+ghost use Rattle.std.specs.Prelude.{◌≡◌, ◌∷◌, ◌+◌, ◌*◌, ◌<◌, ◌≤◌, [], length, map, OnOk, OnErr, IfOk, IfErr};
 ghost use Rattle.std.specs.List.{All};
 ghost use Rattle.std.specs.FinMap as finite;
 ghost use Rattle.text_model.specs.Steps.{Fits, after};
 ghost use Rattle.text_model.specs.TagBits.{slot_count};
 ghost use Rattle.text_model.specs.declared.limits.TheConstants.Limits.{MOST_WIDGETS};
-ghost use Rattle.edit_ops.specs.Anchors.{AnchorsStand};
-ghost use Rattle.edit_ops.specs.Deletions.{deleted};
-ghost use Rattle.edit_ops.specs.Insertions.{inserted_texts, total};
-ghost use Rattle.edit_ops.specs.Removals.{replaced};
-ghost use Rattle.edit_ops.specs.States.{log_of, state_in, IsUnchanged};
+ghost use Rattle.edit_ops.specs.States.{log_of};
 ghost use Rattle.edit_ops.specs.Tagging.{SpanFits, tagged, cleared};
-ghost use Rattle.command_effects.specs.declared.answers.Fault.TheVariants.{Memory, TextTooLong};
+ghost use Rattle.command_effects.specs.declared.answers.Fault.TheVariants.{Memory};
 ghost use Rattle.command_effects.specs.Marking.{taken};
-ghost use Rattle.command_effects.specs.Edits.{length_replaced, with_own_marks, without_widgets};
+ghost use Rattle.command_effects.specs.Edits.{with_own_marks, without_widgets};
 
 use crate::answers::Fault;
-use edit_ops::{
-    EditFault, EditRules, EditedText, Recording, SlottedText, Span, Target, commit, plan_clear,
-    plan_delete, plan_insert, plan_replace, plan_tag,
-};
+use edit_ops::{EditedText, Span, commit, plan_clear, plan_tag};
 use std::alloc::{AllocError, Global};
 use text_model::{Edit, Gravity, MarkNo, Place, Step, StepList, TagSlot, TextStore};
-use undo_stack::EditKind;
 
 /// Makes an edit. Where memory is refused nothing changes.
 fn make<S: TextStore>(store: &mut S, edit: Edit) -> Result<(), AllocError>
@@ -125,93 +117,6 @@ pub fn prepare_drop<S: TextStore>(
         steps.push(Step::TakeMark(MarkNo(2 * slot.0 + 1)))?;
     }
     store.prepare_owned(Edit { steps })
-}
-
-/// Puts texts in before the character at an offset, each behind the one before it.
-pub fn put_texts<S: TextStore>(
-    rules: &EditRules<'_>,
-    text: &mut EditedText<S>,
-    at: usize,
-    pieces: Vec<SlottedText>,
-) -> Result<(), Fault>
-    requires within { at < length (S.content text.old.store).cells }
-    requires stand { All (AnchorsStand (length (S.content text.old.store).cells)) text.old.anchors.items }
-    ensures ok { OnOk result (state_in S.content text.new
-        ≡ inserted_texts rules.now.recording EditKind.Insert at pieces.items (state_in S.content text.old)) }
-    ensures fits { OnOk result
-        (length (S.content text.old.store).cells + total pieces.items ≤ rules.now.limits.now.chars) }
-    ensures err { OnErr result (IsUnchanged S.content text.old text.new) }
-    ensures fault { IfErr result (λ fault. fault ≢ Memory →
-        (fault ≡ TextTooLong) ×
-        (rules.now.limits.now.chars < length (S.content text.old.store).cells + total pieces.items)) }
-{
-    match plan_insert(rules, text, at, pieces) {
-        Err(EditFault::TextTooLong) => Err(Fault::TextTooLong),
-        Err(_) => Err(Fault::Memory),
-        Ok(plan) => {
-            commit(plan, text);
-            Ok(())
-        }
-    }
-}
-
-/// Deletes spans of what a widget shows of a text from `start` to `end`, in any order: they may overlap or be empty,
-/// and the last character that it shows stays, though without its slots.
-pub fn delete_spans<S: TextStore>(
-    alloc: Global,
-    text: &mut EditedText<S>,
-    start: usize,
-    end: usize,
-    spans: &[Span],
-    recording: Recording,
-) -> Result<(), Fault>
-    requires shows { start < end }
-    requires within { end ≤ length (S.content text.old.store).cells }
-    requires spans { All (λ span. span.to ≤ end) spans.now }
-    ensures ok { OnOk result (state_in S.content text.new
-        ≡ deleted recording start end spans.now (state_in S.content text.old)) }
-    ensures err { OnErr result (IsUnchanged S.content text.old text.new) }
-    ensures fault { IfErr result (λ fault. fault ≡ Memory) }
-{
-    match plan_delete(alloc, text, start, end, spans, recording) {
-        Err(_) => Err(Fault::Memory),
-        Ok(plan) => {
-            commit(plan, text);
-            Ok(())
-        }
-    }
-}
-
-/// Puts texts in the place of the characters that a target names, and keeps its mark in its place, or in the texts.
-pub fn replace_texts<S: TextStore>(
-    rules: &EditRules<'_>,
-    text: &mut EditedText<S>,
-    target: Target,
-    pieces: Vec<SlottedText>,
-) -> Result<(), Fault>
-    requires within { target.last < length (S.content text.old.store).cells }
-    requires ordered { target.from ≤ target.to }
-    requires stand { All (AnchorsStand (length (S.content text.old.store).cells)) text.old.anchors.items }
-    ensures ok { OnOk result (state_in S.content text.new
-        ≡ replaced rules.now.recording target.mark.0 target.last target.from target.to pieces.items
-        (state_in S.content text.old)) }
-    ensures fits { OnOk result
-        (length_replaced (length (S.content text.old.store).cells) target.last target.from target.to
-        + total pieces.items ≤ rules.now.limits.now.chars) }
-    ensures err { OnErr result (IsUnchanged S.content text.old text.new) }
-    ensures fault { IfErr result (λ fault. fault ≢ Memory →
-        (fault ≡ TextTooLong) × (rules.now.limits.now.chars
-        < length_replaced (length (S.content text.old.store).cells) target.last target.from target.to
-        + total pieces.items)) }
-{
-    match plan_replace(rules, text, target, pieces) {
-        Err(EditFault::TextTooLong) => Err(Fault::TextTooLong),
-        Err(_) => Err(Fault::Memory),
-        Ok(plan) => {
-            commit(plan, text);
-            Ok(())
-        }
-    }
 }
 
 /// Sets a slot on spans of a text, or takes it off them.

@@ -11,7 +11,6 @@ mod listing;
 mod lists;
 mod marking;
 mod ranges;
-mod reversals;
 mod settings;
 mod tagged_edits;
 mod tagging;
@@ -21,9 +20,7 @@ pub use answers::{Answer, Fault};
 pub use arguments::{first, first_two, none_or_one, one, one_or_two, three, two, two_or_three};
 pub use command_table::is_word;
 pub use comparisons::Comparison;
-pub use edits::{
-    clear_slots, delete_spans, prepare_drop, put_mark, put_widget_marks, set_slot, take_marks,
-};
+pub use edits::{clear_slots, prepare_drop, put_mark, put_widget_marks, set_slot, take_marks};
 pub use excess::is_one_too_many;
 pub use listing::{
     push_filled, push_mark_names, push_names, push_names_in, push_next, push_previous, push_ranges,
@@ -31,8 +28,7 @@ pub use listing::{
 pub use lists::{Pair, pairs_at};
 pub use marking::{gravity_word, make_mark, numbers_named, read_gravity, turn_mark, unset_names};
 pub use ranges::spans_of;
-pub use reversals::{redo_group, undo_group};
 pub use settings::{DocumentSettings, Settings, boolean_at};
-pub use tagged_edits::{put_pairs, replace_pairs, tag_spans};
+pub use tagged_edits::{plan_pairs, plan_replacement, tag_spans};
 pub use tagging::{delete_names, deleted_slots, find_tag};
 pub use words::is_among;

@@ -1,12 +1,17 @@
 ghost use Rattle.std.specs.Prelude.{◌≡◌, ◌≢◌, true, None, Some, ◌+◌, ◌<◌, ◌≤◌, length, chars, map, option_map, IfOk};
+ghost use Rattle.std.specs.Prelude.{min, [], ◌∷◌};
 ghost use Rattle.std.specs.Prelude.{IfErr, OnOk, OnErr};
 ghost use Rattle.std.specs.Char.{IsScalar};
 ghost use Rattle.std.specs.List.{All};
 ghost use Rattle.edit_ops.specs.Anchors.{AnchorsStand};
-ghost use Rattle.edit_ops.specs.Insertions.{inserted_texts};
+ghost use Rattle.edit_ops.specs.Deltas.{KnowsDelta};
+ghost use Rattle.edit_ops.specs.Inserted.{replacement};
+ghost use Rattle.edit_ops.specs.Insertions.{inserted_texts, pieces_text};
+ghost use Rattle.edit_ops.specs.Plans.{planned, HasRoomFor};
 ghost use Rattle.edit_ops.specs.Removals.{replaced};
 ghost use Rattle.edit_ops.specs.States.{log_of, state_in, IsUnchanged};
 ghost use Rattle.edit_ops.specs.Tagging.{SpanFits, tagged};
+ghost use Rattle.edit_ops.specs.Told.{insertion};
 ghost use Rattle.index_grammar.specs.Names.{known_tags};
 ghost use Rattle.tag_table.specs.Tags.{AreTags, names_of};
 ghost use Rattle.text_model.specs.LimitTable.{AreLimits};
@@ -17,11 +22,11 @@ ghost use Rattle.command_effects.specs.Lists.{with_name, with_names, all_names, 
 ghost use Rattle.command_effects.specs.Tagging.{IsFront, piece_of};
 
 use crate::answers::Fault;
-use crate::edits::{put_texts, replace_texts, set_slot};
+use crate::edits::set_slot;
 use crate::excess::excess_of;
 use crate::lists::Pair;
 use crate::tagging::{make_listed_pieces, make_tag, own_slot};
-use edit_ops::{EditRules, EditedText, SlottedText, Span, Target};
+use edit_ops::{EditRules, EditedText, Plan, SlottedText, Span, Target, plan_insert, plan_replace};
 use std::alloc::{AllocError, Global};
 use tag_table::TagTable;
 use text_model::{TagSlot, TextStore};
@@ -54,16 +59,16 @@ fn make_pieces(
     }
 }
 
-/// Makes the tags of pairs that are new, and puts their texts in. Where that is refused, new tags may stand behind the
-/// others.
-pub fn put_pairs<S: TextStore>(
+/// Makes the tags of pairs that are new, and a plan that inserts their texts before the character at an offset, each
+/// after the one before it. Where that is refused, there may be new tags after the others.
+pub fn plan_pairs<S: TextStore>(
     rules: &EditRules<'_>,
     tags: &mut TagTable,
     own: TagSlot,
     text: &mut EditedText<S>,
     at: usize,
     pairs: Vec<Pair>,
-) -> Result<(), Fault>
+) -> Result<Plan<S>, Fault>
     requires within { at < length (S.content text.old.store).cells }
     requires stand { All (AnchorsStand (length (S.content text.old.store).cells)) text.old.anchors.items }
     requires roomy { tags.old.limit ≡ MOST_TAGS }
@@ -73,13 +78,19 @@ pub fn put_pairs<S: TextStore>(
     ensures sound { OnOk result (AreTags tags.new) }
     ensures scalars { All (λ pair. All IsScalar pair.text) pairs.items }
     ensures made { OnOk result (names_of tags.new.tags ≡ with_names (names_of tags.old.tags) (all_names pairs.items)) }
-    ensures ok { OnOk result (state_in S.content text.new
+    ensures same { IsUnchanged S.content text.old text.new }
+    ensures ready { IfOk result (λ plan. S.ready text.new.store plan.prepared) }
+    ensures room { IfOk result (λ plan. HasRoomFor plan.effects text.new.history) }
+    ensures outcome { IfOk result (λ plan.
+        planned plan.effects (S.outcome text.new.store plan.prepared) text.old.anchors.items (log_of text.old.history)
         ≡ inserted_texts rules.now.recording EditKind.Insert at (map (piece_of tags.new.tags own.0) pairs.items)
         (state_in S.content text.old)) }
-    ensures room { OnOk result (excess rules.now.limits.now
+    ensures delta { IfOk result (λ plan. KnowsDelta rules.now.follows
+        (insertion at (pieces_text (map (piece_of tags.new.tags own.0) pairs.items)) ∷ [])
+        (S.content text.old.store).cells (S.outcome text.new.store plan.prepared).cells plan.delta) }
+    ensures fits { OnOk result (excess rules.now.limits.now
         (length (with_names (names_of tags.old.tags) (all_names pairs.items)))
         (length (S.content text.old.store).cells + total pairs.items) ≡ None) }
-    ensures err { OnErr result (IsUnchanged S.content text.old text.new) }
     ensures fault { IfErr result (λ fault. fault ≢ Memory →
         excess rules.now.limits.now (length (with_names (names_of tags.old.tags) (all_names pairs.items)))
         (length (S.content text.old.store).cells + total pairs.items) ≡ Some fault) }
@@ -88,19 +99,19 @@ pub fn put_pairs<S: TextStore>(
         return Err(fault);
     }
     let pieces = make_pieces(rules.alloc, tags, own, pairs)?;
-    put_texts(rules, text, at, pieces)
+    Ok(plan_insert(rules, text, at, pieces)?)
 }
 
-/// Makes the tags of pairs that are new, and puts their texts in the place of the characters that a target names. Where
-/// that is refused, new tags may stand behind the others.
-pub fn replace_pairs<S: TextStore>(
+/// Makes the tags of pairs that are new, and a plan that inserts their texts in place of the characters that a target
+/// names. Where that is refused, there may be new tags after the others.
+pub fn plan_replacement<S: TextStore>(
     rules: &EditRules<'_>,
     tags: &mut TagTable,
     own: TagSlot,
     text: &mut EditedText<S>,
     target: Target,
     pairs: Vec<Pair>,
-) -> Result<(), Fault>
+) -> Result<Plan<S>, Fault>
     requires within { target.last < length (S.content text.old.store).cells }
     requires ordered { target.from ≤ target.to }
     requires stand { All (AnchorsStand (length (S.content text.old.store).cells)) text.old.anchors.items }
@@ -111,14 +122,21 @@ pub fn replace_pairs<S: TextStore>(
     ensures sound { OnOk result (AreTags tags.new) }
     ensures scalars { All (λ pair. All IsScalar pair.text) pairs.items }
     ensures made { OnOk result (names_of tags.new.tags ≡ with_names (names_of tags.old.tags) (all_names pairs.items)) }
-    ensures ok { OnOk result (state_in S.content text.new
+    ensures same { IsUnchanged S.content text.old text.new }
+    ensures ready { IfOk result (λ plan. S.ready text.new.store plan.prepared) }
+    ensures room { IfOk result (λ plan. HasRoomFor plan.effects text.new.history) }
+    ensures outcome { IfOk result (λ plan.
+        planned plan.effects (S.outcome text.new.store plan.prepared) text.old.anchors.items (log_of text.old.history)
         ≡ replaced rules.now.recording target.mark.0 target.last target.from target.to
         (map (piece_of tags.new.tags own.0) pairs.items) (state_in S.content text.old)) }
-    ensures room { OnOk result (excess rules.now.limits.now
+    ensures delta { IfOk result (λ plan. KnowsDelta rules.now.follows
+        (replacement (S.content text.old.store).cells (min target.from target.last) (min target.to target.last)
+        (pieces_text (map (piece_of tags.new.tags own.0) pairs.items)))
+        (S.content text.old.store).cells (S.outcome text.new.store plan.prepared).cells plan.delta) }
+    ensures fits { OnOk result (excess rules.now.limits.now
         (length (with_names (names_of tags.old.tags) (all_names pairs.items)))
         (length_replaced (length (S.content text.old.store).cells) target.last target.from target.to
         + total pairs.items) ≡ None) }
-    ensures err { OnErr result (IsUnchanged S.content text.old text.new) }
     ensures fault { IfErr result (λ fault. fault ≢ Memory →
         excess rules.now.limits.now (length (with_names (names_of tags.old.tags) (all_names pairs.items)))
         (length_replaced (length (S.content text.old.store).cells) target.last target.from target.to
@@ -130,7 +148,7 @@ pub fn replace_pairs<S: TextStore>(
         return Err(fault);
     }
     let pieces = make_pieces(rules.alloc, tags, own, pairs)?;
-    replace_texts(rules, text, target, pieces)
+    Ok(plan_replace(rules, text, target, pieces)?)
 }
 
 /// Makes a tag if it is new, of which there is room, and sets it on spans. Where memory is refused, the new tag may

@@ -1,4 +1,4 @@
-//! Plans of edits by their calls, and what an undo makes of the text.
+//! Plans of edits by their calls, and the delta of an undo.
 
 ghost use Rattle.std.specs.Prelude.{◌≡◌, ◌<◌, ◌≤◌, length, IfOk, OnOk};
 ghost use Rattle.edit_ops.specs.Keeping.{IsKept};
@@ -9,9 +9,9 @@ ghost use Rattle.command_tests.specs.declared.plans.TheConstants.{RECORDING};
 use crate::scenes::{limits, store_with};
 use crate::told::are;
 use edit_ops::{
-    EditFault, EditRules, EditedText, Recording, Reversal, SlotRun, SlottedText, Span, Target,
+    Delta, EditFault, EditRules, EditedText, Recording, SlotRun, SlottedText, Span, Target,
     anchors_stand, commit, plan_clear, plan_delete, plan_insert, plan_redo, plan_replace, plan_tag,
-    plan_undo, reversal_of,
+    plan_undo,
 };
 use std::alloc::{AllocError, Global};
 use std::process::Abort;
@@ -77,30 +77,48 @@ fn insert<S: TextStore>(
         alloc,
         limits,
         recording: RECORDING,
+        follows: false,
     };
     let plan = plan_insert(&rules, text, 4, piece(alloc, "x ")?)?;
     commit(plan, text);
     Ok(())
 }
 
+// Whether a plan knows its delta, which has these hunks.
+fn knows(delta: &Option<Delta>, hunks: &[(usize, usize, &str)]) -> bool {
+    match delta {
+        None => false,
+        Some(delta) => are(&delta.hunks, hunks),
+    }
+}
+
 // Two spans are removed.
 fn check_delete<S: TextStore>(
     rt: &impl Abort,
     alloc: Global,
+    limits: &Limits,
     text: &mut EditedText<S>,
 ) -> Result<(), Fail> {
     let end = text.store.len();
     assert!(rt; 8 <= end);
     let spans = [Span { from: 4, to: 8 }, Span { from: 0, to: 1 }];
-    let plan = plan_delete(alloc, text, 0, end, &spans, RECORDING)?;
+    let rules = EditRules {
+        alloc,
+        limits,
+        recording: RECORDING,
+        follows: true,
+    };
+    let plan = plan_delete(&rules, text, 0, end, &spans)?;
+    assert!(rt; knows(&plan.delta, &[(0, 1, ""), (4, 7, "")]));
     commit(plan, text);
     holds(rt, text, "ne \n")
 }
 
 #[test]
 fn spans_are_removed(rt: HostRuntime) -> Result<(), Fail> {
+    let limits = limits()?;
     let mut text = edited::<PlainStore>(rt.alloc())?;
-    check_delete(&rt, rt.alloc(), &mut text)
+    check_delete(&rt, rt.alloc(), &limits, &mut text)
 }
 
 // A text comes in the place of `one`.
@@ -115,6 +133,7 @@ fn check_replace<S: TextStore>(
         alloc,
         limits,
         recording: RECORDING,
+        follows: true,
     };
     let target = Target {
         last: 7,
@@ -123,6 +142,7 @@ fn check_replace<S: TextStore>(
         mark: MarkNo(0),
     };
     let plan = plan_replace(&rules, text, target, piece(alloc, "1")?)?;
+    assert!(rt; knows(&plan.delta, &[(0, 3, "1")]));
     commit(plan, text);
     holds(rt, text, "1 two\n")
 }
@@ -181,7 +201,13 @@ fn undo<S: TextStore>(
     ensures { OnOk result (IsKept limits.now.chars RECORDING (state_in S.content text.new)) }
 {
     assert!(rt; anchors_stand(&text.anchors, text.store.len()));
-    let plan = plan_undo(alloc, limits, text, MarkNo(0))?;
+    let rules = EditRules {
+        alloc,
+        limits,
+        recording: RECORDING,
+        follows: false,
+    };
+    let plan = plan_undo(&rules, text, MarkNo(0))?;
     commit(plan, text);
     Ok(())
 }
@@ -197,7 +223,13 @@ fn redo<S: TextStore>(
     ensures { OnOk result (IsKept limits.now.chars RECORDING (state_in S.content text.new)) }
 {
     assert!(rt; anchors_stand(&text.anchors, text.store.len()));
-    let plan = plan_redo(alloc, limits, text, MarkNo(0))?;
+    let rules = EditRules {
+        alloc,
+        limits,
+        recording: RECORDING,
+        follows: false,
+    };
+    let plan = plan_redo(&rules, text, MarkNo(0))?;
     commit(plan, text);
     Ok(())
 }
@@ -227,21 +259,47 @@ fn an_edit_is_undone_and_redone(rt: HostRuntime) -> Result<(), Fail> {
     check_undo(&rt, rt.alloc(), &limits, &mut text)
 }
 
-// What becomes of the text where the last group is reverted, if there is one.
-fn undo_reversal<S: TextStore>(
+// What the plan that reverts the last group knows of the text, where its caller follows.
+fn undo_delta<S: TextStore>(
+    rt: &impl Abort,
     alloc: Global,
     limits: &Limits,
-    text: &EditedText<S>,
-) -> Result<Reversal, AllocError>
-    requires { IsKept limits.now.chars RECORDING (state_in S.content text.now) }
+    text: &mut EditedText<S>,
+) -> Result<Option<Delta>, Fail>
+    requires { IsKept limits.now.chars RECORDING (state_in S.content text.old) }
 {
-    let Some(group) = text.history.last_undo() else {
-        return Ok(Reversal {
-            hunks: Vec::new(alloc),
-            runs: Vec::new(alloc),
-        });
+    assert!(rt; anchors_stand(&text.anchors, text.store.len()));
+    let rules = EditRules {
+        alloc,
+        limits,
+        recording: RECORDING,
+        follows: true,
     };
-    reversal_of(alloc, &text.store, &group, true, limits.chars())
+    let mut plan = plan_undo(&rules, text, MarkNo(0))?;
+    Ok(plan.delta.take())
+}
+
+// Whether the characters from 4 to 6 alone get slots, and the one that is set among these.
+fn gets_slot(runs: &[SlotRun]) -> bool {
+    runs.len() == 1 && runs[0].from == 4 && runs[0].to == 6 && runs[0].slots.has(SLOT)
+}
+
+// Whether a delta has one hunk, and what that inserts gets slots where some are wanted.
+fn is_one(delta: Option<Delta>, hunk: (usize, usize, &str), slotted: bool) -> bool {
+    let Some(
+        Delta {
+            hunks,
+            lost,
+            gained,
+        },
+    ) = delta
+    else {
+        return false;
+    };
+    if gets_slot(&gained) != slotted || gained.is_empty() == slotted {
+        return false;
+    }
+    are(&hunks, &[hunk]) && lost.is_none()
 }
 
 // What was inserted would go.
@@ -255,8 +313,8 @@ fn check_reversal<S: TextStore>(
 {
     assert!(rt; 4 < text.store.len() && text.store.len() <= limits.chars());
     insert(rt, alloc, limits, text)?;
-    let made = undo_reversal(alloc, limits, text)?;
-    assert!(rt; are(&made.hunks, &[(4, 6, "")]) && made.runs.is_empty());
+    let delta = undo_delta(rt, alloc, limits, text)?;
+    assert!(rt; is_one(delta, (4, 6, ""), false));
     Ok(())
 }
 
@@ -267,24 +325,26 @@ fn an_undo_removes_what_was_inserted(rt: HostRuntime) -> Result<(), Fail> {
     check_reversal(&rt, rt.alloc(), &limits, &mut text)
 }
 
-// Removes `tw`. What becomes of the text where that is reverted.
-fn undo_delete<S: TextStore>(
+// Removes `tw`.
+fn delete<S: TextStore>(
     alloc: Global,
     limits: &Limits,
     text: &mut EditedText<S>,
-) -> Result<Reversal, EditFault>
-    requires long { 6 ≤ length (S.content text.old.store).cells }
-    requires kept { IsKept limits.now.chars RECORDING (state_in S.content text.old) }
+) -> Result<(), EditFault>
+    requires { 6 ≤ length (S.content text.old.store).cells }
+    ensures { OnOk result (IsKept limits.now.chars RECORDING (state_in S.content text.old) →
+        IsKept limits.now.chars RECORDING (state_in S.content text.new)) }
 {
     let end = text.store.len();
-    let plan = plan_delete(alloc, text, 0, end, &[Span { from: 4, to: 6 }], RECORDING)?;
+    let rules = EditRules {
+        alloc,
+        limits,
+        recording: RECORDING,
+        follows: false,
+    };
+    let plan = plan_delete(&rules, text, 0, end, &[Span { from: 4, to: 6 }])?;
     commit(plan, text);
-    Ok(undo_reversal(alloc, limits, text)?)
-}
-
-// Whether the characters from 4 to 6 alone get slots, and the one that is set among these.
-fn gets_slot(runs: &[SlotRun]) -> bool {
-    runs.len() == 1 && runs[0].from == 4 && runs[0].to == 6 && runs[0].slots.has(SLOT)
+    Ok(())
 }
 
 // The text that was removed would come back with the slot of both neighbours.
@@ -297,8 +357,9 @@ fn check_return<S: TextStore>(
     requires { text.old.history.history ≡ no_history }
 {
     assert!(rt; 6 <= text.store.len() && text.store.len() <= limits.chars());
-    let made = undo_delete(alloc, limits, text)?;
-    assert!(rt; are(&made.hunks, &[(4, 4, "tw")]) && gets_slot(&made.runs));
+    delete(alloc, limits, text)?;
+    let delta = undo_delta(rt, alloc, limits, text)?;
+    assert!(rt; is_one(delta, (4, 4, "tw"), true));
     Ok(())
 }
 

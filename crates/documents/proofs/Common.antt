@@ -1,12 +1,12 @@
 -- The names that most proofs of this crate cite, passed on from one place. Declares nothing.
-pub use Rattle.std.proofs.Common.{[], ap₂, if◌then◌else◌, true≢false, ℕ, ◌&&◌, ◌*◌, ◌++◌, ◌+◌, ◌-◌, ◌<◌, ◌==◌, ◌^◌}
-pub use Rattle.std.proofs.Common.{◌||◌, ◌∙◌, ◌∷◌, ◌≡◌, ◌≢◌, ◌≤◌, ◌⊎◌, Bool, Contains, Err, IfOk, IfSome, IsSome, List}
-pub use Rattle.std.proofs.Common.{None, Ok, OnErr, Option, Result, Some, ap, append-nil, append_assoc, arith, bytes_eq}
+pub use Rattle.std.proofs.Common.{[], ap₂, if◌then◌else◌, true≢false, ℕ, ◌&&◌, ◌*◌, ◌++◌, ◌+◌, ◌-◌, ◌<◌, ◌==◌, ◌||◌}
+pub use Rattle.std.proofs.Common.{◌∙◌, ◌∷◌, ◌≡◌, ◌≢◌, ◌≤◌, ◌⊎◌, Bool, Contains, Err, IfOk, IfSome, List, None, Ok}
+pub use Rattle.std.proofs.Common.{OnErr, Option, Result, Some, String, ap, append-nil, append_assoc, arith, bytes_eq}
 pub use Rattle.std.proofs.Common.{chars, cond, drop, encode_utf8_all, eq-eqb, eqb-true, false, filter, find, get_or}
 pub use Rattle.std.proofs.Common.{get_or-append-add, inl, inr, is_some, length, length-append, length-drop, length-take}
 pub use Rattle.std.proofs.Common.{map, max, min, nat_le, nat_lt, ne_eqb, not, option_and_then, option_map, refl, remove}
-pub use Rattle.std.proofs.Common.{rules, set, slice_get, slice_index_or, slice_range, string_bytes, subst, suc, sum_by}
-pub use Rattle.std.proofs.Common.{sym, take, true, zero}
+pub use Rattle.std.proofs.Common.{set, slice_get, slice_index_or, slice_range, string_bytes, subst, suc, sym, take}
+pub use Rattle.std.proofs.Common.{true, zero}
 pub use Rattle.command_effects.proofs.LeftLaws.{AreApart-head, AreApart-tail}
 pub use Rattle.command_effects.proofs.MadeLaws.{absent_slot, among_slot, found_tag, front_same, take-more}
 pub use Rattle.command_effects.proofs.PairLaws.{spans_of-fit}
@@ -60,9 +60,8 @@ pub use Rattle.documents.specs.Seats.{IsLonger}
 pub use Rattle.documents.specs.Tags.{add_spans, key_stays, known_or, lowered, raised, remove_spans, reordered}
 pub use Rattle.documents.specs.Tags.{tag_delete, tags_on, without_tags}
 pub use Rattle.documents.specs.TagsGone.{AreGone, TellsGone}
-pub use Rattle.documents.specs.TagsTold.{AreDistinct, AreKeysOf, IsTagChange, TellsPairs, TellsSpan, TellsSpans}
-pub use Rattle.documents.specs.TagsTold.{TellsTags, after_changes, flags_of, key_set, run_changes, slot_changes}
-pub use Rattle.documents.specs.TagsTold.{untagged}
+pub use Rattle.documents.specs.TagsTold.{AreDistinct, AreKeysOf, IsTagChange, TellsSpan, TellsSpans, TellsTags}
+pub use Rattle.documents.specs.TagsTold.{after_changes, flags_of, key_set, run_changes, slot_changes, untagged}
 pub use Rattle.documents.specs.Texts.{insert_at, insertion_offset, joined_text, keyed_text, tags_with, within_limits}
 pub use Rattle.documents.specs.Told.{Foretells, TellsCells}
 pub use Rattle.documents.specs.Views.{is_idle, shown, shown_flags, view_end, view_start}
@@ -72,26 +71,27 @@ pub use Rattle.documents.specs.Widgets.{without_selections}
 pub use Rattle.documents.specs.declared.tag_lists.TagChange.{TagChange}
 pub use Rattle.documents.specs.declared.told.EditTold.{EditTold}
 pub use Rattle.edit_ops.proofs.AnchoredLaws.{all-moved, all-removed, anchored-stand}
-pub use Rattle.edit_ops.proofs.HunkLaws.{inserting-of, joined, map-patched, put-behind, put_all, removed_all}
-pub use Rattle.edit_ops.proofs.HunkLaws.{replacing-all, replacing-of, taking-is, taking-of, taking-stand}
+pub use Rattle.edit_ops.proofs.DeltaLaws.{apart-at, changed-at}
+pub use Rattle.edit_ops.proofs.HunkLaws.{map-patched}
 pub use Rattle.edit_ops.proofs.KeepLaws.{deleted-kept, deleted-runs, replaced-kept, texts-kept}
-pub use Rattle.edit_ops.proofs.ReplayLaws.{back-end, redo-fits-replay, undo-fits-replay}
 pub use Rattle.edit_ops.proofs.ReversalLaws.{back-cons, back-reverted, back-undone, group-redone-text}
 pub use Rattle.edit_ops.proofs.ReversalLaws.{group-undone-text, guarded, guarded-holds, redone-kept, redone-text}
 pub use Rattle.edit_ops.proofs.ReversalLaws.{undone-kept}
+pub use Rattle.edit_ops.proofs.RunLaws.{some_is}
 pub use Rattle.edit_ops.proofs.StartLaws.{Begins, inserted-behind, is-start, removed-behind, text-end-begins}
 pub use Rattle.edit_ops.specs.Anchors.{AnchorsStand, AreAnchored, anchors_moved, anchors_removed}
-pub use Rattle.edit_ops.specs.Deletions.{delete_set, deleted, in_spans, removed_spans, runs_below}
-pub use Rattle.edit_ops.specs.Insertions.{inserted_text, inserted_texts, slots_or}
+pub use Rattle.edit_ops.specs.Deletions.{delete_set, deleted, deletions_in, in_spans, removed_spans, runs_below}
+pub use Rattle.edit_ops.specs.Deltas.{IsDelta, IsLostRun, KnowsDelta, bared, hunks_made, lost_run}
+pub use Rattle.edit_ops.specs.Insertions.{inserted_text, inserted_texts, pieces_text, slots_or}
 pub use Rattle.edit_ops.specs.Removals.{clipped, removed_span, replaced_span}
-pub use Rattle.edit_ops.specs.Replays.{replayed, replays}
+pub use Rattle.edit_ops.specs.Replays.{AreScalars, replayed, replays}
 pub use Rattle.edit_ops.specs.Reversals.{action_redone, group_redone, group_undone, log_redone, log_undone, put_back}
 pub use Rattle.edit_ops.specs.Reversals.{redo_end, taken_back, undo_end}
 pub use Rattle.edit_ops.specs.SlotRuns.{AreBareRuns, IsBareRun, bare_cells, slotted, with_slots}
 pub use Rattle.edit_ops.specs.States.{Log, State, log_noted, log_of, state_of}
 pub use Rattle.edit_ops.specs.Tagging.{SpanFits, cell_without, cleared, tagged, without}
 pub use Rattle.edit_ops.specs.Told.{AreExact, AreHunks, AreHunksOf, Tells, deletion, hunk_changes, insertion, patched}
-pub use Rattle.edit_ops.specs.Told.{patched_by, replacing, taking}
+pub use Rattle.edit_ops.specs.Told.{patched_by}
 pub use Rattle.edit_ops.specs.declared.anchors.Anchors.{Anchors}
 pub use Rattle.edit_ops.specs.declared.slot_runs.SlotRun.{SlotRun}
 pub use Rattle.edit_ops.specs.declared.slotted_texts.SlottedText.{SlottedText}
@@ -118,24 +118,22 @@ pub use Rattle.std.proofs.lemmas.List.Elements.{All-append, All-cons, All-drop, 
 pub use Rattle.std.proofs.lemmas.List.Elements.{All-map, All-nil, All-push, All-replicate, All-set, All-tail, All-take}
 pub use Rattle.std.proofs.lemmas.List.Elements.{All-weaker, Contains-append_cases, Contains-append_left}
 pub use Rattle.std.proofs.lemmas.List.Elements.{Contains-append_right}
-pub use Rattle.std.proofs.lemmas.List.Folds.{drop_split, find-append, list_any-append}
-pub use Rattle.std.proofs.lemmas.List.Sums.{sum_by-append, sum_by-cons, sum_by_more_le}
+pub use Rattle.std.proofs.lemmas.List.Folds.{drop_split, find-append, flat_map-map, list_any-append}
+pub use Rattle.std.proofs.lemmas.List.Sums.{sum_by-cons}
 pub use Rattle.std.proofs.lemmas.Map.Lookups.{CmpEqualImpliesEq, exact_pairs, exact_unsigned}
 pub use Rattle.std.proofs.lemmas.Option.{get_or_from_slice_get, none-some, option_and_then_some, same_Some}
-pub use Rattle.std.proofs.lemmas.Option.{slice_get-get_or, slice_get-map}
-pub use Rattle.std.proofs.lemmas.Result.{IfOk-weaker, on_ok_weaker}
+pub use Rattle.std.proofs.lemmas.Option.{slice_get-get_or, slice_get-map, slice_get_within}
 pub use Rattle.std.proofs.lemmas.Slice.Eq.{bytes_eq-Decides}
-pub use Rattle.std.proofs.lemmas.Str.{IsUtf8-string_bytes, chars-append, chars-nil, chars_from_encodes}
+pub use Rattle.std.proofs.lemmas.Str.{IsUtf8-string_bytes, chars-nil, chars_from_encodes}
 pub use Rattle.std.specs.BTreeMap.{is_at}
-pub use Rattle.std.specs.BTreeSet.{IsUnchanged, contains, contains_text}
+pub use Rattle.std.specs.BTreeSet.{IsUnchanged, contains}
 pub use Rattle.std.specs.Bool.{Decides, OnFalse}
 pub use Rattle.std.specs.Char.{IsScalar}
 pub use Rattle.std.specs.Cmp.{Equal-is, IsTotalOrder, both_ways, nat_cmp_total, tied_itself, unsigned_tied}
 pub use Rattle.std.specs.List.{All, AllByRecursion, cons_option, fold, list_any, position_from}
 pub use Rattle.std.specs.Option.{option_or}
 pub use Rattle.std.specs.Ordering.{eq_by_cmp, is_eq, nat_cmp}
-pub use Rattle.std.specs.Prelude.{IsUtf8, codes, flat_map, is_ok, unwrap_or}
-pub use Rattle.std.specs.declared.string.String.{String}
+pub use Rattle.std.specs.Prelude.{IsUtf8, box_value, codes, is_ok, unwrap_or}
 pub use Rattle.tag_table.specs.Priority.{next_to}
 pub use Rattle.tag_table.specs.Tags.{AreTags, Tag, Tags, first_slot, is_named, names_of, sel, slot_of, slots_of}
 pub use Rattle.tag_table.specs.declared.faults.NoSuchTag.TheVariants.{Moved, Neighbour}
@@ -150,12 +148,11 @@ pub use Rattle.text_index.specs.Words.{is_word}
 pub use Rattle.text_model.proofs.CellLaws.{characters-inserted, characters-removed, characters-with_slot}
 pub use Rattle.text_model.proofs.CellLaws.{characters-without_slots, contains-set_slot}
 pub use Rattle.text_model.proofs.DocumentLaws.{IsDocument-inserted, IsDocument-new, IsDocument-removed}
-pub use Rattle.text_model.proofs.SpliceLaws.{changed-same, get_or-inserted_behind, get_or-inserted_within}
-pub use Rattle.text_model.proofs.SpliceLaws.{get_or-removed_before, get_or-removed_behind, length-cells_inserted}
-pub use Rattle.text_model.proofs.SpliceLaws.{length-changed, length-inserted, length-removed, map-alike, map-changed}
-pub use Rattle.text_model.proofs.SpliceLaws.{map-inserted, map-map, map-removed, map-slice_range, removed-append_left}
+pub use Rattle.text_model.proofs.SpliceLaws.{changed-same, length-cells_inserted, length-changed, length-inserted}
+pub use Rattle.text_model.proofs.SpliceLaws.{length-removed, map-alike, map-changed, map-inserted, map-map, map-removed}
+pub use Rattle.text_model.proofs.SpliceLaws.{map-slice_range}
 pub use Rattle.text_model.specs.Changes.{flag_at, is_alike, next_change}
-pub use Rattle.text_model.specs.Content.{Content, Marks, Slots, flags, map_marks, new_content, slot_sets, slots_left_of}
+pub use Rattle.text_model.specs.Content.{Content, Marks, Slots, flags, map_marks, new_content, slot_sets}
 pub use Rattle.text_model.specs.Documents.{IsDocument, MarksStand, ends_in_newline}
 pub use Rattle.text_model.specs.LimitTable.{AreLimits, LimitTable}
 pub use Rattle.text_model.specs.Lines.{IsLineStart, is_newline, line_of, line_start, lines}

@@ -2,12 +2,13 @@
 use Rattle.documents.proofs.Common.{◌≡◌, ◌≢◌, ℕ, ◌+◌, ◌<◌, Bool, true, false, cond, not, ◌&&◌, ◌||◌, List, [], ◌∷◌}
 use Rattle.documents.proofs.Common.{◌++◌, Option, None, Some, map, length, refl, sym, ap, ap₂, ◌∙◌, arith, subst}
 use Rattle.documents.proofs.Common.{true≢false, ne_eqb, eq-eqb, get_or, take, chars, string_bytes, slice_range}
-use Rattle.documents.proofs.Common.{nat_cmp_total, unsigned_tied, eq_by_cmp, nat_cmp, String, false_from_ne_true}
-use Rattle.documents.proofs.Common.{append-nil, length-map, none-some, same_Some, Named, AreTags, Tag, Tags, sel}
-use Rattle.documents.proofs.Common.{slot_of, texts_of, Slots, flags, changed, Cell, map-alike, map-map, is_among}
-use Rattle.documents.proofs.Common.{is_same, KeyedCell, with_key, Key, Keys, key_cmp, key_pairs, keyed, keys_of}
-use Rattle.documents.proofs.Common.{set_key, AreSeats, key_stays, without_tags, AreGone, TellsGone, TellsSpan}
-use Rattle.documents.proofs.Common.{TellsTags, flags_of, TagChange}
+use Rattle.documents.proofs.Common.{nat_cmp_total, unsigned_tied, eq_by_cmp, nat_cmp, false_from_ne_true, append-nil}
+use Rattle.documents.proofs.Common.{length-map, none-some, same_Some, Named, AreTags, Tag, Tags, sel, slot_of, texts_of}
+use Rattle.documents.proofs.Common.{Slots, flags, changed, Cell, map-alike, map-map, is_among, is_same, KeyedCell}
+use Rattle.documents.proofs.Common.{with_key, Key, Keys, key_cmp, key_pairs, keyed, keys_of, set_key, AreSeats}
+use Rattle.documents.proofs.Common.{key_stays, without_tags, AreGone, TellsGone, TellsSpan, TellsTags, flags_of}
+use Rattle.documents.proofs.Common.{TagChange}
+use Rattle.std.specs.declared.string.String.{String}
 use Rattle.documents.proofs.BridgeLaws.{contains-set_key, key_itself, key_tied, keys_of-has, keys_same, retained}
 use Rattle.documents.proofs.KeyedLaws.{keyed_cell}
 use Rattle.documents.proofs.LookupLaws.{has, and_none}

@@ -1,22 +1,13 @@
--- Keys as loops list them: those of slots, and those of names.
-use Rattle.documents.proofs.Common.{◌≡◌, ℕ, ◌+◌, ◌<◌, Bool, true, false, cond, not, ◌||◌, List, [], ◌∷◌, ◌++◌, Some}
-use Rattle.documents.proofs.Common.{filter, map, take, length, get_or, refl, sym, ap, ap₂, ◌∙◌, append_assoc}
-use Rattle.documents.proofs.Common.{option_map, subst, true≢false, string_bytes, both_ways, list_any, eq_by_cmp}
-use Rattle.documents.proofs.Common.{nat_cmp, String, false_from_ne_true, append-nil, map-append, list_any-append}
-use Rattle.documents.proofs.Common.{same_Some, slice_get-map, bytes_eq-Decides, IsUtf8-string_bytes, Named, numbers_of}
-use Rattle.documents.proofs.Common.{stood_at, Tag, sel, slots_of, texts_of, Slots, SlotRun, is_same, take-more}
-use Rattle.documents.proofs.Common.{filter-append, filter-in, filter-out, take-found, Key, is_shared, key_cmp}
-use Rattle.documents.proofs.Common.{key_named, keys_listed, keys_named, seat_pair, tag_pair, AreDistinct, AreKeysOf}
-use Rattle.documents.proofs.Common.{key_set, run_changes, slot_changes, TagChange, slice_get, bytes_eq, if◌then◌else◌}
+-- Keys as loops list them.
+use Rattle.documents.proofs.Common.{◌≡◌, ℕ, ◌+◌, ◌<◌, Bool, true, false, cond, not, List, [], ◌∷◌, ◌++◌, Some, filter}
+use Rattle.documents.proofs.Common.{map, take, length, get_or, refl, sym, ap, ap₂, ◌∙◌, append_assoc, option_map}
+use Rattle.documents.proofs.Common.{nat_cmp, append-nil, map-append, same_Some, slice_get-map, Named, numbers_of}
+use Rattle.documents.proofs.Common.{stood_at, Tag, sel, slots_of, Slots, SlotRun, is_same, take-more, filter-append}
+use Rattle.documents.proofs.Common.{filter-in, filter-out, take-found, Key, is_shared, keys_listed, seat_pair, tag_pair}
+use Rattle.documents.proofs.Common.{run_changes, slot_changes, TagChange, slice_get}
 use Rattle.std.specs.Str.{chars}
 use Rattle.name_list.specs.Names.{names_of}
 use Rattle.tag_table.specs.Tags.{names_of as tag_names}
-use Rattle.command_effects.proofs.WordLaws.{bytes_eq-chars}
-use Rattle.documents.proofs.BridgeLaws.{key_itself, key_tied}
-use Rattle.documents.proofs.FindLaws.{bytes_eq-turned}
-use Rattle.documents.proofs.KeyLaws.{key_cmp_exact, key_cmp_total}
-use Rattle.documents.proofs.MarksToldLaws.{texts-more}
-use Rattle.documents.proofs.TagsToldLaws.{both-false, set_again}
 use Rattle.std.specs.FinSet as set
 
 -- the name `sel` as it stands in code
@@ -152,131 +143,14 @@ slot_changes-push pairs (first ∷ runs) run =
     ap (λ changes. front ++ changes) (slot_changes-push pairs runs run)
     ∙ sym (append_assoc front (slot_changes pairs runs) (run_changes run.from run.to true (keys_listed pairs run.slots)))
 
--- what is told of one run more
-pub slot_changes-more : (pairs : List (ℕ × Key)) (runs : List SlotRun) (at : ℕ) (run : SlotRun) (keys : List Key)
-    (before now : List TagChange) → at < length runs → run ≡ get_or runs at run
-    → keys ≡ keys_listed pairs run.slots → before ≡ slot_changes pairs (take at runs)
-    → now ≡ before ++ run_changes run.from run.to true keys → now ≡ slot_changes pairs (take (at + 1) runs)
-slot_changes-more pairs runs at run keys before now within is listed so_far made =
+-- what is told of one run more, after other changes
+pub slot_changes-after : (pairs : List (ℕ × Key)) (runs : List SlotRun) (at : ℕ) (run : SlotRun) (keys : List Key)
+    (start before now : List TagChange) → at < length runs → run ≡ get_or runs at run
+    → keys ≡ keys_listed pairs run.slots → before ≡ start ++ slot_changes pairs (take at runs)
+    → now ≡ before ++ run_changes run.from run.to true keys → now ≡ start ++ slot_changes pairs (take (at + 1) runs)
+slot_changes-after pairs runs at run keys start before now within is listed so_far made =
+    let more = run_changes run.from run.to true (keys_listed pairs run.slots) in
     made ∙ ap₂ (λ changes ks. changes ++ run_changes run.from run.to true ks) so_far listed
-    ∙ sym (ap (slot_changes pairs) (take-more runs at run within is) ∙ slot_changes-push pairs (take at runs) run)
-
--- ---- the keys of names
-
--- a widget knows keys by names
-key_named-one : (widget name other : List ℕ) → key_named widget name ≡ key_named widget other → name ≡ other
-key_named-one widget name other same =
-    elim (is_same name sel) as (λ b. is_same name sel ≡ b →
-    (if b then record { selects = true; name = widget } else record { selects = false; name = name })
-    ≡ key_named widget other → name ≡ other) [
-      | true ↦ λ one. elim (is_same other sel) as (λ b. is_same other sel ≡ b →
-          (let own : Key = record { selects = true; name = widget } in own)
-          ≡ (if b then record { selects = true; name = widget } else record { selects = false; name = other })
-          → name ≡ other) [
-            | true ↦ λ two _. (bytes_eq-Decides name sel).0 one ∙ sym ((bytes_eq-Decides other sel).0 two)
-            | false ↦ λ _ never. absurd (true≢false (ap (λ (key : Key). key.selects) never))
-          ] refl
-      | false ↦ λ _. elim (is_same other sel) as (λ b.
-          (let shared : Key = record { selects = false; name = name } in shared)
-          ≡ (if b then record { selects = true; name = widget } else record { selects = false; name = other })
-          → name ≡ other) [
-            | true ↦ λ never. absurd (true≢false (sym (ap (λ (key : Key). key.selects) never)))
-            | false ↦ λ alike. ap (λ (key : Key). key.name) alike
-          ]
-    ] refl same
-
-named-tied : (widget name other : List ℕ) →
-    eq_by_cmp key_cmp (key_named widget name) (key_named widget other) ≡ bytes_eq name other
-named-tied widget name other =
-    both_ways (eq_by_cmp key_cmp (key_named widget name) (key_named widget other)) (bytes_eq name other)
-    (λ tied. (bytes_eq-Decides name other).1 (key_named-one widget name other
-    (key_tied (key_named widget name) (key_named widget other) tied)))
-    (λ same. key_itself (key_named widget name) (key_named widget other)
-    (ap (key_named widget) ((bytes_eq-Decides name other).0 same)))
-
--- whether a word is one of some, by its bytes
-abbrev pub is_spelled : {Z : Type 0} → List ℕ → List (String Z) → Bool
-is_spelled bytes words = list_any (λ word. bytes_eq bytes (string_bytes word)) words
-
-named-any : {Z : Type 0} (widget : List ℕ) (word : String Z) (words : List (String Z)) →
-    set.contains (keys_named widget (texts_of words)) (key_named widget (chars (string_bytes word)))
-    ≡ is_spelled (string_bytes word) words
-named-any widget word [] = set.contains-empty key_cmp (key_named widget (chars (string_bytes word)))
-named-any {Z} widget word (other ∷ words) =
-    set.contains-insert key_cmp_total (keys_named widget (texts_of words))
-    (key_named widget (chars (string_bytes other))) (key_named widget (chars (string_bytes word)))
-    ∙ ap₂ (λ a b. a || b) (named-tied widget (chars (string_bytes word)) (chars (string_bytes other))
-    ∙ sym (bytes_eq-chars (string_bytes word) (string_bytes other) (IsUtf8-string_bytes word)
-    (IsUtf8-string_bytes other)))
-    (named-any widget word words)
-
-distinct-push : (keys : List Key) (key : Key) → AreDistinct keys → set.contains (key_set keys) key ≡ false →
-    AreDistinct (keys ++ key ∷ [])
-distinct-push [] key distinct new = (set.contains-empty key_cmp key, tt)
-distinct-push (first ∷ keys) key distinct new =
-    let parts = both-false (eq_by_cmp key_cmp key first) (set.contains (key_set keys) key)
-    (sym (set.contains-insert key_cmp_total (key_set keys) first key) ∙ new) in
-    let other : eq_by_cmp key_cmp first key ≡ false = false_from_ne_true (eq_by_cmp key_cmp first key) (λ same.
-    true≢false (sym (key_itself key first (sym (key_tied first key same))) ∙ parts.0)) in (
-      ap (λ ks. set.contains ks first) (set.from_list_push key_cmp_total key_cmp_exact keys key)
-          ∙ set.contains-insert key_cmp_total (key_set keys) key first ∙ ap₂ (λ a b. a || b) other distinct.0,
-      distinct-push keys key distinct.1 parts.1,
-    )
-
--- the keys of a word more
-module _ {Z : Type 0} (widget : List ℕ) (words : List (String Z)) (at : ℕ) (word : String Z) (bytes : List ℕ)
-    (within : at < length words) (is : word ≡ get_or words at word) (spelled : bytes ≡ string_bytes word)
-    (keys : List Key) (are : AreKeysOf (keys_named widget (texts_of (take at words))) keys) where
-  abbrev named : Key
-  named = key_named widget (chars (string_bytes word))
-
-  keys-longer : keys_named widget (texts_of (take (at + 1) words))
-      ≡ set.insert (keys_named widget (texts_of (take at words))) named
-  keys-longer =
-      ap (keys_named widget) (sym (texts-more words at word bytes within is spelled))
-      ∙ ap key_set (map-append (key_named widget) (texts_of (take at words)) (chars bytes ∷ []))
-      ∙ set.from_list_push key_cmp_total key_cmp_exact (map (key_named widget) (texts_of (take at words)))
-      (key_named widget (chars bytes))
-      ∙ ap (λ bs. set.insert (keys_named widget (texts_of (take at words))) (key_named widget (chars bs))) spelled
-
-  -- it is new, and its key comes behind the others
-  pub keys-in : (key : Key) → is_spelled bytes (take at words) ≡ false → key ≡ key_named widget (chars bytes)
-      → AreKeysOf (keys_named widget (texts_of (take (at + 1) words))) (keys ++ key ∷ [])
-  keys-in key new made =
-      let same : key ≡ named = made ∙ ap (λ bs. key_named widget (chars bs)) spelled in
-      subst (λ k. AreKeysOf (keys_named widget (texts_of (take (at + 1) words))) (keys ++ k ∷ [])) (sym same)
-      (record {
-        distinct = distinct-push keys named are.distinct (ap (λ ks. set.contains ks named) are.all
-            ∙ named-any widget word (take at words)
-            ∙ ap (λ bs. is_spelled bs (take at words)) (sym spelled) ∙ new);
-        all = set.from_list_push key_cmp_total key_cmp_exact keys named
-            ∙ ap (λ ks. set.insert ks named) are.all ∙ sym keys-longer;
-      })
-
-  -- or it isn't
-  pub keys-out : is_spelled bytes (take at words) ≡ true
-      → AreKeysOf (keys_named widget (texts_of (take (at + 1) words))) keys
-  keys-out old = record {
-    distinct = are.distinct;
-    all = are.all ∙ sym (keys-longer ∙ set_again named true (keys_named widget (texts_of (take at words)))
-        (named-any widget word (take at words) ∙ ap (λ bs. is_spelled bs (take at words)) (sym spelled) ∙ old));
-  }
-
--- which words were seen, with one more
-pub spelled-more : {Z : Type 0} (words : List (String Z)) (at : ℕ) (word : String Z) (bytes : List ℕ)
-    (seen after : List ℕ → Bool) → at < length words → word ≡ get_or words at word → bytes ≡ string_bytes word
-    → ((q : List ℕ) → seen q ≡ is_spelled q (take at words))
-    → ((q : List ℕ) → after q ≡ cond (bytes_eq bytes q) true (seen q))
-    → (q : List ℕ) → after q ≡ is_spelled q (take (at + 1) words)
-spelled-more {Z} words at word bytes seen after within is spelled so_far updates q =
-    updates q ∙ ap₂ (λ b s. cond b true s) (bytes_eq-turned bytes q) (so_far q)
-    ∙ either (bytes_eq q bytes) (is_spelled q (take at words))
-    ∙ ap (λ bs. is_spelled q (take at words) || (bytes_eq q bs || false)) spelled
-    ∙ sym (ap (is_spelled q) (take-more words at word within is)
-    ∙ list_any-append (λ w. bytes_eq q (string_bytes w)) (take at words) (word ∷ []))
-  where
-    either : (a b : Bool) → cond a true b ≡ (b || (a || false))
-    either true true = refl
-    either true false = refl
-    either false true = refl
-    either false false = refl
+    ∙ append_assoc start (slot_changes pairs (take at runs)) more
+    ∙ ap (λ changes. start ++ changes)
+    (sym (ap (slot_changes pairs) (take-more runs at run within is) ∙ slot_changes-push pairs (take at runs) run))

@@ -4,6 +4,7 @@ pub mod CarriedLaws
 pub mod ChangeLaws
 pub mod ClearedLaws
 pub mod Common
+pub mod DeltaLaws
 pub mod EditLeadLaws
 pub mod FindLaws
 pub mod FirstLaws
@@ -28,9 +29,9 @@ pub mod NamesKeptLaws
 pub mod NewNameLaws
 pub mod OptionLeadLaws
 pub mod OrderLaws
-pub mod PairTagLaws
 pub mod PartsLaws
 pub mod PlacedLaws
+pub mod PlannedLaws
 pub mod QueryLaws
 pub mod RemovalLaws
 pub mod ReorderLaws

@@ -2,7 +2,8 @@
 use Rattle.documents.proofs.Common.{◌≡◌, ℕ, suc, ◌+◌, ◌≤◌, List, [], ◌∷◌, length, refl, sym, ap, ◌∙◌, arith, slice_get}
 use Rattle.documents.proofs.Common.{slice_index_or, IsUtf8, get_or_past, length-map, get_or_from_slice_get}
 use Rattle.documents.proofs.Common.{chars_from_encodes, Mark, Goes, list_text, literal, Document, Parts, Stands}
-use Rattle.documents.proofs.Common.{IsUtf8-string_bytes, String, mark_names, string_bytes, subst, Some, chars}
+use Rattle.documents.proofs.Common.{IsUtf8-string_bytes, mark_names, string_bytes, subst, Some, chars}
+use Rattle.std.specs.declared.string.String.{String}
 use Rattle.mark_table.specs.SharedMarks.{names_of}
 use Rattle.tag_table.specs.Tags.{names_of as tag_names}
 use Rattle.documents.proofs.PlacedLaws.{placed-names}

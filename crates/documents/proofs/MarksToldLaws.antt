@@ -10,8 +10,7 @@ use Rattle.documents.proofs.Common.{SharedMark, Widget, mark_unset, place_named,
 use Rattle.documents.proofs.Common.{with_mark, with_shared, with_widget, AreGathered, ForetellsMarks, IsSharedName}
 use Rattle.documents.proofs.Common.{MarksTold, offset_named, offset_seen, mark_number, answered, refused, widget_named}
 use Rattle.documents.proofs.Common.{Ok, Err, Memory, Answer, Does, Change, is_ok, ◌≢◌, filter, not, Option, None, Some}
-use Rattle.documents.proofs.Common.{chars, string_bytes, option_map, ◌||◌}
-use Rattle.std.specs.Prelude.{String}
+use Rattle.documents.proofs.Common.{chars, string_bytes, option_map, ◌||◌, String}
 use Rattle.std.specs.declared.cmp.Ordering.TheVariants.{Less, Equal, Greater}
 
 -- ---- words

@@ -1,7 +1,6 @@
 -- What the queries of a document's store and tables answer.
 use Rattle.documents.proofs.Common.{◌≡◌, ℕ, List, sym, chars, encode_utf8_all, string_bytes, IsUtf8-string_bytes}
-use Rattle.documents.proofs.Common.{chars_from_encodes, list_text}
-use Rattle.std.proofs.Common.{String}
+use Rattle.documents.proofs.Common.{chars_from_encodes, list_text, String}
 
 -- a text that spells a list
 pub spelled : {Z : Type 0} (text : String Z) (elements : List (List ℕ)) →

@@ -112,7 +112,7 @@ stands-replaced limits parts document place slot from to pieces stands seated or
 -- ---- the whole command
 
 -- a place of the view, cut to its last character, is where texts go that are put in there
-cut-at : {parts : Parts} {document : Document} {place slot start end : ℕ} {content : Content} (given : ℕ) →
+pub cut-at : {parts : Parts} {document : Document} {place slot start end : ℕ} {content : Content} (given : ℕ) →
     IsSeen parts document place slot content start end → start < end
     → min (start + given) (end - 1) ≡ insertion_offset document (widget_at document place) given
 cut-at {start = start} {end = end} given seen shows =

@@ -13,8 +13,8 @@ use Rattle.documents.proofs.Common.{guarded, redone-kept, redone-text, undone-ke
 use Rattle.documents.proofs.Common.{with_clipped, Document, Parts, Widget, document_of, widget_at, keys_between}
 use Rattle.documents.proofs.Common.{without_cells, Stands, action_again, edit_redo, edit_undo, group_again, group_back}
 use Rattle.documents.proofs.Common.{redone, text_back, undone, with_end, is_idle, IsWellFormedDocument, replays}
-use Rattle.documents.proofs.Common.{replayed, back-cons, All-append, All-cons, All-nil, option_map, back-end}
-use Rattle.documents.proofs.Common.{back-reverted, back-undone, edited}
+use Rattle.documents.proofs.Common.{option_map, back-reverted, back-undone, edited, AreScalars, Change}
+use Rattle.edit_ops.proofs.ReplayLaws.{back-end}
 use Rattle.documents.proofs.BackLaws.{again-back, redo-done, undo-done}
 use Rattle.documents.proofs.ChangeLaws.{Leaves, does-changed}
 use Rattle.documents.proofs.KnownLaws.{known-shared}
@@ -57,18 +57,6 @@ can-take at text found content is =
     (removed at (at + length text) all) found is) in
     let first : at + length text < length all = grind (arith, nat_tests, parts.0) in
     omega (arith, first, count)
-
-abbrev AreScalars : List Action → Type 0
-AreScalars group = All (λ (action : Action). All IsScalar action.text) group
-
-scalars-back : (group : List Action) → AreScalars group → AreScalars (replays true group)
-scalars-back [] scalars = scalars
-scalars-back (action ∷ actions) scalars =
-    let P = λ (a : Action). All IsScalar a.text in
-    subst AreScalars (sym (back-cons action actions))
-    (All-append P (replays true actions) (replayed true action ∷ [])
-    (scalars-back actions (All-tail P action actions scalars))
-    (All-cons P (replayed true action) [] (All-head P action actions scalars) (All-nil P)))
 
 -- the parts before the group, of which edits change the state alone
 module _ (limit : ℕ) (parts : Parts) (bound : limit ≤ MOST_CHARS) where
@@ -125,14 +113,14 @@ module _ (limit : ℕ) (parts : Parts) (bound : limit ≤ MOST_CHARS) where
       (ap (repeated_group limit actions) (redone-text limit action between state one) ∙ others))
 
   -- the actions that take a group back are made
-  group-back : (group : List Action) (found : List ℕ) (state : State) (document : Document) → AreScalars group →
+  group-back : (group : List Action) (found : List ℕ) (state : State) (document : Document) → AreScalars (replays true group) →
       StandsAs state document
       → reverted_group limit group (model.characters state.content.cells) ≡ Some found →
       StandsAs (group_undone group state) (group_back group document)
   group-back group found state document scalars stands is =
       subst (λ (made : State × Document). StandsAs made.0 made.1)
       (λ i. (back-undone group state i, again-back group document i))
-      (group-again (replays true group) found state document (scalars-back group scalars) stands
+      (group-again (replays true group) found state document scalars stands
       (back-reverted limit group (model.characters state.content.cells) ∙ is))
 
 -- ---- where a group ends
@@ -240,10 +228,10 @@ stands-log parts document log stands on most =
 
 -- ---- the whole commands
 
--- what is known of a group
-pub record IsReverted (limits : LimitTable) (group : List Action) : Type 0 where
+-- what is known of the actions that are made
+pub record AreReplays (limits : LimitTable) (actions : List Action) : Type 0 where
   pub bounds : AreLimits limits
-  pub scalars : All (λ (action : Action). All IsScalar action.text) group
+  pub scalars : AreScalars actions
 
 -- actions are kept, and the widget isn't idle
 pub record CanRevert (parts : Parts) (document : Document) (place slot : ℕ) : Type 0 where
@@ -254,8 +242,8 @@ pub record CanRevert (parts : Parts) (document : Document) (place slot : ℕ) : 
 
 pub leaves-undone : {limits : LimitTable} {old : Parts} {state : State} {document : Document} {place slot : ℕ}
     {group : List Action} → CanRevert old document place slot
-    → next_undo old.journal.log.history ≡ Some group → IsReverted limits group → IsWellFormedDocument limits document →
-    state ≡ edits.undone (2 * slot) (state_in old)
+    → next_undo old.journal.log.history ≡ Some group → AreReplays limits (replays true group)
+    → IsWellFormedDocument limits document → state ≡ edits.undone (2 * slot) (state_in old)
     → Leaves limits (with_state old state) document (Ok Empty) (edit_undo document (widget_at document place))
 leaves-undone {limits} {old} {state} {document} {place} {slot} {group} can is reverts formed state_is =
     let widget : Widget = widget_at document place in
@@ -304,8 +292,8 @@ leaves-undone {limits} {old} {state} {document} {place} {slot} {group} can is re
 
 pub leaves-redone : {limits : LimitTable} {old : Parts} {state : State} {document : Document} {place slot : ℕ}
     {group : List Action} → CanRevert old document place slot
-    → next_redo old.journal.log.history ≡ Some group → IsReverted limits group → IsWellFormedDocument limits document →
-    state ≡ edits.redone (2 * slot) (state_in old)
+    → next_redo old.journal.log.history ≡ Some group → AreReplays limits (replays false group)
+    → IsWellFormedDocument limits document → state ≡ edits.redone (2 * slot) (state_in old)
     → Leaves limits (with_state old state) document (Ok Empty) (edit_redo document (widget_at document place))
 leaves-redone {limits} {old} {state} {document} {place} {slot} {group} can is reverts formed state_is =
     let widget : Widget = widget_at document place in
@@ -353,3 +341,20 @@ leaves-redone {limits} {old} {state} {document} {place} {slot} {group} can is re
       marks = λ few. few;
       seats = refl;
     }))
+
+-- what it does is what its plan knows
+pub undone-edits : {old : Parts} {document : Document} {place slot : ℕ} {group : List Action}
+    → CanRevert old document place slot → next_undo old.journal.log.history ≡ Some group
+    → replays true group ≡ (edit_undo document (widget_at document place)).edits
+undone-edits {document = document} {place} {group = group} can is =
+    sym (ap (λ (change : Change). change.edits) (undo-done document (widget_at document place) group
+    (ap (λ (d : Document). d.undo) (sym can.stands.is) ∙ can.on)
+    (ap (λ (d : Document). next_undo d.history) (sym can.stands.is) ∙ is) can.active))
+
+pub redone-edits : {old : Parts} {document : Document} {place slot : ℕ} {group : List Action}
+    → CanRevert old document place slot → next_redo old.journal.log.history ≡ Some group
+    → replays false group ≡ (edit_redo document (widget_at document place)).edits
+redone-edits {document = document} {place} {group = group} can is =
+    sym (ap (λ (change : Change). change.edits) (redo-done document (widget_at document place) group
+    (ap (λ (d : Document). d.undo) (sym can.stands.is) ∙ can.on)
+    (ap (λ (d : Document). next_redo d.history) (sym can.stands.is) ∙ is) can.active))

@@ -1,18 +1,17 @@
 -- What is told where a key is put on spans, or taken off them.
-use Rattle.documents.proofs.Common.{◌≡◌, ℕ, zero, suc, ◌+◌, ◌-◌, ◌<◌, ◌≤◌, Bool, true, false, not, List, [], ◌∷◌, ◌++◌}
-use Rattle.documents.proofs.Common.{map, length, take, drop, get_or, refl, sym, ap, ap₂, ◌∙◌, arith, subst}
-use Rattle.documents.proofs.Common.{append_assoc, Some, cond, None, true≢false, inl, inr, slice_range, sum_by, All}
-use Rattle.documents.proofs.Common.{cases_lt, drop-drop, drop-take, get_or-drop, get_or-map, get_or-take, length-append}
-use Rattle.documents.proofs.Common.{length-drop, length-map, length-take-le, map-append, take-append-drop, take-take}
-use Rattle.documents.proofs.Common.{take_more, split_between, All-cons, All-drop, All-from_get_or, All-get_or, All-head}
-use Rattle.documents.proofs.Common.{All-nil, All-map, All-tail, All-take, drop_split, sum_by-cons}
+use Rattle.documents.proofs.Common.{◌≡◌, ℕ, ◌+◌, ◌-◌, ◌<◌, ◌≤◌, Bool, true, false, not, List, [], ◌∷◌, ◌++◌, map}
+use Rattle.documents.proofs.Common.{length, take, drop, get_or, refl, sym, ap, ap₂, ◌∙◌, arith, subst, append_assoc}
+use Rattle.documents.proofs.Common.{Some, cond, None, true≢false, slice_range, All, drop-drop, drop-take, get_or-drop}
+use Rattle.documents.proofs.Common.{get_or-map, get_or-take, length-append, length-drop, length-map, length-take-le}
+use Rattle.documents.proofs.Common.{map-append, take-append-drop, take-take, take_more, split_between, All-drop}
+use Rattle.documents.proofs.Common.{All-from_get_or, All-get_or, All-head, All-map, All-tail, All-take, drop_split}
 use Rattle.documents.proofs.Common.{get_or_from_slice_get, same_Some, Named, known_tags, flags, flag_at, is_alike}
 use Rattle.documents.proofs.Common.{next_change, LimitTable, changed, length-changed, map-slice_range, in_spans}
 use Rattle.documents.proofs.Common.{SpanFits, Span, with_name, is_among, Empty, TooManyTags, Document, KeyedCell, Parts}
 use Rattle.documents.proofs.Common.{Widget, document_of, widget_at, with_key, with_tag, Key, key_named, key_pairs}
 use Rattle.documents.proofs.Common.{set_key, Stands, key_of, Change, answered, refused, spans_shown, add_spans}
 use Rattle.documents.proofs.Common.{remove_spans, IsTagChange, TellsSpan, TellsSpans, TellsTags, flags_of, Foretells}
-use Rattle.documents.proofs.Common.{TellsCells, TagChange, EditTold, slice_get, nat_lt, if◌then◌else◌}
+use Rattle.documents.proofs.Common.{TellsCells, TagChange, EditTold, slice_get, nat_lt, if◌then◌else◌, apart-at}
 use mathlib.Core.Bool.{beq}
 use Rattle.name_list.specs.Names.{names_of}
 use Rattle.text_index.proofs.FlagLaws.{next-alike}
@@ -219,47 +218,6 @@ pub with_tag-paints : (key : Key) (on : Bool) (spans : List Span) (cells : List 
 with_tag-paints key on [] cells = refl
 with_tag-paints key on (span ∷ spans) cells =
     with_tag-paints key on spans (changed (with_key key on) span.from span.to cells)
-
--- a span that stands below others
-pub record IsBelow (border : ℕ) (span : Span) (others : List Span) : Type 0 where
-  pub some : span.from < span.to
-  pub below : span.to < border
-  pub above : All (λ (other : Span). span.to ≤ other.from) others
-
-pub apart-at : (border : ℕ) (spans : List Span) (at : ℕ) (d : Span) → at < length spans → AreApart border spans →
-    IsBelow border (get_or spans at d) (take at spans)
-apart-at border [] at d within apart = absurd (omega (arith, within))
-apart-at border (span ∷ spans) zero d within apart =
-    record { some = apart.0; below = apart.1; above = All-nil (λ (other : Span). span.to ≤ other.from) }
-apart-at border (first ∷ spans) (suc at) d within apart =
-    let rest = apart-at first.from spans at d (omega (arith, within)) apart.2 in
-    let to = (get_or spans at d).to in
-    let some = apart.0 in let below = apart.1 in let under = rest.below in
-    record {
-      some = rest.some;
-      below = omega (arith, some, below, under);
-      above = All-cons (λ (other : Span). to ≤ other.from) first (take at spans) (omega (arith, under)) rest.above;
-    }
-
-abbrev pub long : Span → ℕ
-long span = span.to - span.from
-
--- spans that don't touch have less in them than there is below their border
-pub counted : (border : ℕ) (spans : List Span) → 0 < border → AreApart border spans → sum_by long spans < border
-counted border [] some apart = some
-counted border (span ∷ spans) some apart =
-    let above = apart.0 in let below = apart.1 in
-    let sum = sum_by-cons long span spans in
-    elim (cases_lt 0 span.from) [
-      | inl inside ↦ (let rest = counted span.from spans inside apart.2 in omega (arith, sum, rest, above, below))
-      | inr first ↦
-          (let rest = none spans (subst (λ n. AreApart n spans) (omega (arith, first)) apart.2) in
-          omega (arith, sum, rest, above, below))
-    ]
-  where
-    none : (spans : List Span) → AreApart 0 spans → sum_by long spans ≡ 0
-    none [] apart = refl
-    none (span ∷ spans) apart = absurd (let below = apart.1 in omega (arith, below))
 
 -- a span of a text
 pub apart-fits : (len : ℕ) (spans : List Span) (at : ℕ) (d : Span) → at < length spans → AreApart (len + 1) spans →

@@ -173,14 +173,6 @@ tells-between keys listed front back text from to are start end some =
     (tells-all true front back text from to start end some listed set.empty are.distinct (λ key _.
     set.contains-empty key_cmp key))
 
-pub tells-run : (keys : Keys) (listed : List Key) (front back : List KeyedCell) (text : List ℕ) →
-    AreKeysOf keys listed → 0 < length text
-    → TellsTags (run_changes (length front) (length front + length text) true listed)
-    (front ++ untagged text ++ back) (front ++ dressed keys text ++ back)
-tells-run keys listed front back text are some =
-    tells-between keys listed front back text (length front) (length front + length text) are refl refl
-    (omega (arith, some))
-
 -- a character loses its keys
 pub tells-bare : (cell : KeyedCell) (listed : List Key) (front back : List KeyedCell) → AreKeysOf cell.keys listed
     → TellsTags (run_changes (length front) (length front + 1) false listed) (front ++ cell ∷ back)

@@ -3,17 +3,14 @@ use Rattle.std.specs.Prelude.{◌≡◌, ◌<◌, ◌≤◌, ℕ, Bool, true, fa
 use Rattle.std.specs.Prelude.{slice_range}
 use Rattle.std.specs.FinSet as set
 use Rattle.std.specs.List.{All}
-use Rattle.text_model.specs.Splices.{changed, removed}
-use Rattle.undo_stack.specs.declared.actions.EditKind.{EditKind}
-use Rattle.edit_ops.specs.Told.{after_changes_by, patched_by, replacing}
+use Rattle.text_model.specs.Splices.{changed}
+use Rattle.edit_ops.specs.Told.{after_changes_by}
 use Rattle.edit_ops.specs.declared.changes.TextChange.{TextChange}
 use Rattle.edit_ops.specs.declared.slot_runs.SlotRun.{SlotRun}
 use Rattle.edit_ops.specs.declared.spans.Span.{Span}
-use Rattle.command_effects.specs.Lists.{Pair}
-use Rattle.documents.specs.Documents.{Document, KeyedCell, Widget}
-use Rattle.documents.specs.Edits.{with_key, with_tag, with_texts}
+use Rattle.documents.specs.Documents.{KeyedCell}
+use Rattle.documents.specs.Edits.{with_key, with_tag}
 use Rattle.documents.specs.Keys.{Key, Keys, keys_listed}
-use Rattle.documents.specs.Texts.{joined_text, keyed_text}
 use Rattle.documents.specs.declared.tag_lists.TagChange.{TagChange}
 
 -- characters that have no tags yet
@@ -80,10 +77,3 @@ abbrev pub slot_changes : List (ℕ × Key) → List SlotRun → List TagChange
 slot_changes pairs [] = []
 slot_changes pairs (run ∷ runs) =
     run_changes run.from run.to true (keys_listed pairs run.slots) ++ slot_changes pairs runs
-
--- what is told where texts take the place of the characters from one offset to another
-abbrev pub TellsPairs : Widget → ℕ → ℕ → List Pair → List KeyedCell → List TagChange → Type 0
-TellsPairs widget from to pairs cells told =
-    (kind : EditKind) (document : Document) → document.cells ≡ removed from to cells
-    → TellsTags told (patched_by untagged 0 (replacing from to (joined_text pairs)) cells)
-    (with_texts kind from (map (keyed_text widget) pairs) document).cells

@@ -10,10 +10,10 @@ ghost use Rattle.documents.specs.Views.{is_idle, shown};
 
 use crate::callers::Caller;
 use crate::documents::Document;
-use crate::told::EditTold;
+use crate::told::{EditTold, carry_out};
 use crate::views::{end_of, start_of};
-use command_effects::{Fault, Pair, delete_spans, replace_pairs, spans_of};
-use edit_ops::{EditRules, Target};
+use command_effects::{Fault, Pair, plan_replacement, spans_of};
+use edit_ops::{EditRules, Target, plan_delete};
 use text_model::{MarkNo, TagSlot, TextStore};
 
 impl<S: TextStore> Document<S> {
@@ -36,16 +36,16 @@ impl<S: TextStore> Document<S> {
         let start = start_of(&self.text.anchors, slot);
         let end = end_of(&self.text.anchors, slot, self.text.store.len());
         let spans = spans_of(self.alloc, start, end - start, places)?;
-        let told = self.told_deletion(caller, start, end, &spans)?;
-        delete_spans(
-            self.alloc,
-            &mut self.text,
-            start,
-            end,
-            &spans,
-            self.settings.recording(),
-        )?;
-        Ok(told)
+        let rules = EditRules {
+            alloc: self.alloc,
+            limits: caller.limits,
+            recording: self.settings.recording(),
+            follows: caller.follows,
+        };
+        let Ok(plan) = plan_delete(&rules, &mut self.text, start, end, &spans) else {
+            return Err(Fault::Memory);
+        };
+        Ok(carry_out(self.alloc, &self.seats, &self.tags, &mut self.text, plan)?)
     }
 
     /// Replaces the characters between two places by texts, and makes the tags of their lists. The end of the
@@ -69,7 +69,6 @@ impl<S: TextStore> Document<S> {
             (replace_span caller.now.limits.now self.old widget (insertion_offset self.old widget from)
             (insertion_offset self.old widget to) pairs.items) self.old self.new result }
     {
-        let told = self.told_replacement(caller, from, to, &pairs)?;
         let slot = self.seats.number(caller.seat);
         let start = start_of(&self.text.anchors, slot);
         let last = end_of(&self.text.anchors, slot, self.text.store.len()) - 1;
@@ -78,6 +77,7 @@ impl<S: TextStore> Document<S> {
             alloc: self.alloc,
             limits: caller.limits,
             recording: self.settings.recording(),
+            follows: caller.follows,
         };
         let target = Target {
             last,
@@ -85,7 +85,7 @@ impl<S: TextStore> Document<S> {
             to: start + to,
             mark: MarkNo(2 * slot),
         };
-        let replaced = replace_pairs(
+        let planned = plan_replacement(
             &rules,
             &mut self.tags,
             TagSlot(slot),
@@ -93,11 +93,18 @@ impl<S: TextStore> Document<S> {
             target,
             pairs,
         );
-        match replaced {
-            Ok(()) => Ok(told),
+        let plan = match planned {
+            Ok(plan) => plan,
             Err(fault) => {
                 self.tags.truncate(front);
-                Err(fault)
+                return Err(fault);
+            }
+        };
+        match carry_out(self.alloc, &self.seats, &self.tags, &mut self.text, plan) {
+            Ok(told) => Ok(told),
+            Err(_) => {
+                self.tags.truncate(front);
+                Err(Fault::Memory)
             }
         }
     }

@@ -10,8 +10,9 @@ ghost use Rattle.undo_stack.specs.Modified.{is_modified};
 
 use crate::callers::Caller;
 use crate::documents::Document;
-use crate::told::EditTold;
-use command_effects::{Answer, Fault, redo_group, undo_group};
+use crate::told::{EditTold, carry_out};
+use command_effects::{Answer, Fault};
+use edit_ops::{EditRules, plan_redo, plan_undo};
 use text_model::{MarkNo, TextStore};
 
 impl<S: TextStore> Document<S> {
@@ -78,15 +79,21 @@ impl<S: TextStore> Document<S> {
         if !self.settings.undo {
             return Ok(EditTold::nothing(self.alloc));
         }
-        let Some(group) = self.text.history.last_undo() else {
+        if self.text.history.last_undo().is_none() {
             return Err(Fault::NothingToUndo);
-        };
+        }
         if self.is_idle(caller.seat) {
             return Ok(EditTold::nothing(self.alloc));
         }
-        let told = self.told_reversal(caller, &group, true)?;
+        let rules = EditRules {
+            alloc: self.alloc,
+            limits: caller.limits,
+            recording: self.settings.recording(),
+            follows: caller.follows,
+        };
         let insert = MarkNo(2 * self.seats.number(caller.seat));
-        undo_group(self.alloc, caller.limits, &mut self.text, insert)?;
+        let plan = plan_undo(&rules, &mut self.text, insert)?;
+        let told = carry_out(self.alloc, &self.seats, &self.tags, &mut self.text, plan)?;
         Ok(told)
     }
 
@@ -102,15 +109,21 @@ impl<S: TextStore> Document<S> {
         if !self.settings.undo {
             return Ok(EditTold::nothing(self.alloc));
         }
-        let Some(group) = self.text.history.last_redo() else {
+        if self.text.history.last_redo().is_none() {
             return Err(Fault::NothingToRedo);
-        };
+        }
         if self.is_idle(caller.seat) {
             return Ok(EditTold::nothing(self.alloc));
         }
-        let told = self.told_reversal(caller, &group, false)?;
+        let rules = EditRules {
+            alloc: self.alloc,
+            limits: caller.limits,
+            recording: self.settings.recording(),
+            follows: caller.follows,
+        };
         let insert = MarkNo(2 * self.seats.number(caller.seat));
-        redo_group(self.alloc, caller.limits, &mut self.text, insert)?;
+        let plan = plan_redo(&rules, &mut self.text, insert)?;
+        let told = carry_out(self.alloc, &self.seats, &self.tags, &mut self.text, plan)?;
         Ok(told)
     }
 }

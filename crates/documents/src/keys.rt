@@ -1,16 +1,12 @@
 //! The keys of tags, as changes of tags report them.
 
 ghost use Rattle.std.specs.Prelude.{◌≡◌, ◌<◌, ◌++◌, chars, filter, map, IfOk, OnOk};
-ghost use Rattle.documents.specs.Keys.{is_shared, key_named, key_pairs, keys_listed, keys_named, seat_pair, tag_pair};
-ghost use Rattle.documents.specs.TagsTold.{AreKeysOf};
-ghost use Rattle.command_effects.specs.Tagging.{slots_named};
-ghost use Rattle.tcl_words.specs.Unread.{texts_of};
+ghost use Rattle.documents.specs.Keys.{is_shared, key_named, key_pairs, keys_listed, seat_pair, tag_pair};
 ghost use Rattle.text_model.specs.declared.limits.TheConstants.Limits.{MOST_WIDGETS};
 
-use command_effects::{find_tag, is_word};
+use command_effects::is_word;
 use name_list::NameList;
 use std::alloc::{AllocError, Global};
-use std::collections::BTreeSet;
 use tag_table::TagTable;
 use text_model::{TagSet, TagSlot, Text};
 
@@ -102,33 +98,4 @@ pub fn keys_in(
     push_selections(alloc, &mut keys, seats, slots)?;
     push_tags(alloc, &mut keys, tags, slots)?;
     Ok(keys)
-}
-
-/// The keys of the tags of these names to a widget, each once.
-pub fn keys_named(alloc: Global, widget: &str, names: &[String]) -> Result<Vec<Key>, AllocError>
-    ensures { IfOk result (λ keys. AreKeysOf (keys_named (chars widget.now) (texts_of names.now)) keys.items) }
-{
-    let mut seen = BTreeSet::new(alloc);
-    let mut keys = Vec::new(alloc);
-    for name in names {
-        let name = name.as_str();
-        if seen.insert(String::from_str(alloc, name)?)? {
-            keys.push(Key::named(alloc, widget, name)?)?;
-        }
-    }
-    Ok(keys)
-}
-
-/// The slots of those tags of these names that there are, for a widget.
-pub fn slots_named(tags: &TagTable, own: TagSlot, names: &[String]) -> TagSet
-    requires { own.0 < MOST_WIDGETS }
-    ensures { result ≡ slots_named tags.now.tags own.0 (texts_of names.now) }
-{
-    let mut slots = TagSet::empty();
-    for name in names {
-        if let Some(slot) = find_tag(tags, own, name.as_str()) {
-            slots = slots.with(slot);
-        }
-    }
-    slots
 }

@@ -7,8 +7,8 @@ ghost use Rattle.documents.specs.Views.{is_idle, shown};
 
 use crate::callers::Caller;
 use crate::documents::Document;
-use crate::told::EditTold;
-use command_effects::{Fault, Pair, put_pairs};
+use crate::told::{EditTold, carry_out};
+use command_effects::{Fault, Pair, plan_pairs};
 use edit_ops::EditRules;
 use std::alloc::AllocError;
 use text_model::{TagSlot, Text, TextStore};
@@ -65,20 +65,27 @@ impl<S: TextStore> Document<S> {
             (insert_at caller.now.limits.now self.old (widget_at self.old caller.now.seat) at pairs.items)
             self.old self.new result }
     {
-        let told = self.told_insertion(caller, at, &pairs)?;
         let slot = TagSlot(self.seats.number(caller.seat));
         let front = self.tags.len();
         let rules = EditRules {
             alloc: self.alloc,
             limits: caller.limits,
             recording: self.settings.recording(),
+            follows: caller.follows,
         };
-        let put = put_pairs(&rules, &mut self.tags, slot, &mut self.text, at, pairs);
-        match put {
-            Ok(()) => Ok(told),
+        let planned = plan_pairs(&rules, &mut self.tags, slot, &mut self.text, at, pairs);
+        let plan = match planned {
+            Ok(plan) => plan,
             Err(fault) => {
                 self.tags.truncate(front);
-                Err(fault)
+                return Err(fault);
+            }
+        };
+        match carry_out(self.alloc, &self.seats, &self.tags, &mut self.text, plan) {
+            Ok(told) => Ok(told),
+            Err(_) => {
+                self.tags.truncate(front);
+                Err(Fault::Memory)
             }
         }
     }

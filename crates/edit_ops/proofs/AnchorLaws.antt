@@ -1,8 +1,7 @@
 -- Anchors that are moved: one of them, and those of each widget by a loop.
 use Rattle.edit_ops.proofs.Common.{◌≡◌, ℕ, ◌+◌, ◌<◌, List, ◌++◌, map, length, get_or, set, take, drop, sym, subst, ap}
 use Rattle.edit_ops.proofs.Common.{◌∙◌, arith, All, get_or_default, All-get_or, Anchors, AnchorsStand, IfSome, None}
-use Rattle.edit_ops.proofs.Common.{Option, Some, option_map}
-use Rattle.std.proofs.lemmas.Grind.{common_steps}
+use Rattle.edit_ops.proofs.Common.{Option, Some, option_map, common_steps}
 use Rattle.std.proofs.lemmas.List.Edits.{map_over_more}
 
 pub if-mapped : (P Q : ℕ → Type 0) (f : ℕ → ℕ) (anchor : Option ℕ) → ((place : ℕ) → P place → Q (f place)) →

@@ -1,12 +1,12 @@
 -- What hunks make of an old text.
-use Rattle.edit_ops.proofs.Common.{◌≡◌, ℕ, Bool, ◌+◌, ◌-◌, ◌<◌, ◌≤◌, true, false, List, [], ◌∷◌, ◌++◌, length, take}
-use Rattle.edit_ops.proofs.Common.{drop, map, refl, sym, ap, ap₂, ◌∙◌, arith, append-nil, length-append, length-take}
+use Rattle.edit_ops.proofs.Common.{removed_all, ◌≡◌, ℕ, Bool, ◌+◌, ◌-◌, ◌<◌, ◌≤◌, true, false, List, [], ◌∷◌, ◌++◌}
+use Rattle.edit_ops.proofs.Common.{length, take, drop, map, refl, sym, ap, ap₂, ◌∙◌, arith, append-nil, length-take}
 use Rattle.edit_ops.proofs.Common.{subst, nat_lt, reverse, slice_range, if◌then◌else◌, lt-ltb, ltb-true, ltb-false}
 use Rattle.edit_ops.proofs.Common.{drop-append-le, drop_at, drop-map, map-append, take_at, reverse-append, drop_split}
 use Rattle.edit_ops.proofs.Common.{inserted, removed, length-removed, map-slice_range, take-removed, slice-join}
 use Rattle.edit_ops.proofs.Common.{AreApart, AreHunks, patched_by, taking, taking_out, Hunk, Span, append_assoc}
-use Rattle.edit_ops.proofs.Common.{between_is, AreSeparate, AreHunksOf, flat_map, replacing, insertion, deletion}
-use Rattle.edit_ops.proofs.Common.{after_actions, length-take-le, take-append-drop, ⊤}
+use Rattle.edit_ops.proofs.Common.{between_is, AreSeparate, AreHunksOf, replacing, insertion, deletion, after_actions}
+use Rattle.edit_ops.proofs.Common.{length-take-le, take-append-drop, ⊤}
 use Rattle.edit_ops.proofs.DeleteLaws.{length-slice}
 use Rattle.edit_ops.proofs.TellLaws.{hunks-within}
 
@@ -42,54 +42,11 @@ map-patched f put put_mapped same at (hunk ∷ hunks) list =
     ∙ ap₂ (λ xs ys. xs ++ ys) (map-slice_range f at hunk.from list) (same hunk.text))
     (map-patched f put put_mapped same hunk.to hunks list)
 
--- ---- texts that are put in
-
--- an element for each character of a text
-abbrev pub IsEach : {A : Type 0} → (List ℕ → List A) → Type 0
-IsEach put = (text : List ℕ) → length (put text) ≡ length text
-
--- the elements of texts, one text behind the other
-abbrev pub joined : {A : Type 0} → (List ℕ → List A) → List (List ℕ) → List A
-joined put [] = []
-joined put (text ∷ texts) = put text ++ joined put texts
-
--- the elements of texts are put in at an offset of a list, each text behind the one before it
-abbrev pub put_all : {A : Type 0} → (List ℕ → List A) → ℕ → List (List ℕ) → List A → List A
-put_all put at [] old = old
-put_all put at (text ∷ texts) old = put_all put (at + length text) texts (inserted at (put text) old)
-
-pub put-behind : {A : Type 0} (put : List ℕ → List A) (at : ℕ) (texts : List (List ℕ)) (front rest : List A) → IsEach put
-    → length front ≡ at → put_all put at texts (front ++ rest) ≡ front ++ (joined put texts ++ rest)
-put-behind put at [] front rest each long = refl
-put-behind put at (text ∷ texts) front rest each long =
-    ap₂ (λ xs ys. put_all put (at + length text) texts (xs ++ put text ++ ys)) (take_at front rest at long)
-    (drop_at front rest at long)
-    ∙ put-behind put (at + length text) texts (front ++ put text) rest each
-    (length-append front (put text) ∙ ap₂ (λ m n. m + n) long (each text))
-    ∙ append_assoc front (put text) (joined put texts ++ rest)
-    ∙ ap (λ xs. front ++ xs) (sym (append_assoc (put text) (joined put texts) rest))
+-- ---- texts that are inserted
 
 -- elements of a text are those of its parts
 abbrev pub IsPut : {A : Type 0} → (List ℕ → List A) → Type 0
 IsPut put = (put [] ≡ []) × ((text more : List ℕ) → put (text ++ more) ≡ put text ++ put more)
-
-joined-is : {A : Type 0} (put : List ℕ → List A) (texts : List (List ℕ)) → IsPut put
-    → joined put texts ≡ put (flat_map (λ text. text) texts)
-joined-is put [] is = sym is.0
-joined-is put (text ∷ texts) is =
-    ap (λ xs. put text ++ xs) (joined-is put texts is) ∙ sym (is.1 text (flat_map (λ text. text) texts))
-
--- that is one insertion of all of them
-put-all-is : {A : Type 0} (put : List ℕ → List A) (at : ℕ) (texts : List (List ℕ)) (list : List A) → IsEach put
-    → IsPut put → at ≤ length list
-    → put_all put at texts list ≡ inserted at (put (flat_map (λ text. text) texts)) list
-put-all-is put at texts list each is within =
-    let front = take at list in
-    let rest = drop at list in
-    ap (put_all put at texts) (sym (take-append-drop at list))
-    ∙ put-behind put at texts front rest each (length-take-le at list within)
-    ∙ ap (λ xs. front ++ (xs ++ rest)) (joined-is put texts is)
-    ∙ sym (append_assoc front (put (flat_map (λ text. text) texts)) rest)
 
 -- from an earlier offset on
 pub hunks-lower : (border at len : ℕ) (hunks : List Hunk) → border ≤ at → AreHunks at len hunks →
@@ -99,11 +56,6 @@ hunks-lower border at len (hunk ∷ hunks) before stand =
     (let h = stand.0 in omega (arith, before, h), stand.1, stand.2)
 
 -- ---- spans that are taken out
-
--- spans are taken out of a list, one after the other
-abbrev pub removed_all : {A : Type 0} → List Span → List A → List A
-removed_all [] list = list
-removed_all (span ∷ spans) list = removed_all spans (removed span.from span.to list)
 
 abbrev pub taken : Span → Hunk
 taken span = record { from = span.from; to = span.to; text = [] }
@@ -275,16 +227,6 @@ replacing-is put from to text list none ordered within =
     ∙ replacing-patched put from to text [] list none ordered)
     ∙ sym (ap₂ (λ xs ys. xs ++ put text ++ ys) (take_at front rest from long) (drop_at front rest from long)
     ∙ append_assoc front (put text) rest)
-
--- texts that are put in after another one are one text in the place of the characters
-pub replacing-all : {A : Type 0} (put : List ℕ → List A) (from to : ℕ) (texts : List (List ℕ)) (list : List A)
-    → IsEach put → IsPut put → from ≤ to → to ≤ length list
-    → patched_by put 0 (replacing from to (flat_map (λ text. text) texts)) list
-    ≡ put_all put from texts (removed from to list)
-replacing-all put from to texts list each is ordered within =
-    replacing-is put from to (flat_map (λ text. text) texts) list is.0 ordered within
-    ∙ sym (put-all-is put from texts (removed from to list) each is
-    (let long = length-removed from to list ordered within in omega (arith, long, ordered, within)))
 
 -- ---- a character stays between two hunks
 

@@ -14,6 +14,7 @@ use Rattle.edit_ops.proofs.Common.{log_noted, all_noted, outlineed, state_of, �
 use Rattle.std.specs.Ordering.{nat_cmp}
 use Rattle.std.proofs.Math.Bool.{or-true}
 use Rattle.edit_ops.proofs.AnchorLaws.{if-mapped}
+use Rattle.edit_ops.proofs.RowLaws.{InsertedRow, row-first, row-next, row-same}
 use Rattle.std.specs.FinSet as set
 
 pub noted-append : (recording : Recording) (kind : EditKind) (actions others : List Action) (log : Log)
@@ -139,6 +140,7 @@ pub record Inserting (keeps : Bool) (outline new : Outline) (from start : ℕ) (
   pub room : len + total rest < 2 ^ 64
   pub whole : len + total rest ≡ start + total pieces
   pub place : at + start ≡ from + len
+  pub row : InsertedRow from at pieces rest outline.steps new.steps
   pub goes : (recording : Recording) (kind : EditKind) (state : State) → (recording.undo ≡ true → keeps ≡ true)
       → Fits outline.steps state.content
       → IsBetween (needs_shared pieces) around behind start from (after outline.steps state.content).cells
@@ -171,6 +173,7 @@ inserting-first keeps outline at len shared behind pieces left left_is within st
       room = fits;
       whole = refl;
       place = refl;
+      row = row-first at pieces pieces outline.steps refl;
       goes = λ recording kind state _ fits is. record { fits = fits; between = is; makes = refl };
     })
 
@@ -205,6 +208,7 @@ module _ {keeps : Bool} {outline now : Outline} {from start : ℕ} {around : Slo
     room = omega (arith, counted, so_far.room);
     whole = omega (arith, counted, so_far.whole);
     place = omega (arith, so_far.place);
+    row = row-next so_far.row left_is slots some (ap (λ (d : Outline). d.steps) made);
     goes = λ recording kind state keeping fits begins.
         let far = so_far.goes recording kind state keeping fits begins in
         let before = after now.steps state.content in
@@ -253,6 +257,7 @@ module _ {keeps : Bool} {outline now : Outline} {from start : ℕ} {around : Slo
     room = omega (arith, counted, so_far.room);
     whole = omega (arith, counted, so_far.whole, none);
     place = so_far.place;
+    row = row-same so_far.row left_is none;
     goes = λ recording kind state keeping fits is.
         let far = so_far.goes recording kind state keeping fits is in
         let before = after now.steps state.content in

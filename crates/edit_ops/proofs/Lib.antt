@@ -5,8 +5,10 @@ pub mod Common
 pub mod CoverLaws
 pub mod CursorTextLaws
 pub mod DeleteLaws
+pub mod DeltaLaws
 pub mod HunkLaws
 pub mod InsertLaws
+pub mod InsertedLaws
 pub mod KeepLaws
 pub mod OrderLaws
 pub mod PaintLaws
@@ -15,6 +17,7 @@ pub mod RemovalLaws
 pub mod ReplaceLaws
 pub mod ReplayLaws
 pub mod ReversalLaws
+pub mod RowLaws
 pub mod RunLaws
 pub mod SlotRunLaws
 pub mod SpotLaws

@@ -14,7 +14,7 @@ use Rattle.edit_ops.proofs.Common.{log_undone, log_redone, undone_group, redone_
 use Rattle.edit_ops.proofs.Common.{Log, Outline, state_of, Action, put_in, take_out, repeated, repeated_group, FitsText}
 use Rattle.edit_ops.proofs.Common.{History, next_undo, next_redo, undo-goes, redo-goes, anchors_left, group_moved}
 use Rattle.edit_ops.proofs.Common.{log_after, planned, whole-is, length-characters, line-front, line-before}
-use Rattle.edit_ops.proofs.Common.{next_line-is}
+use Rattle.edit_ops.proofs.Common.{next_line-is, ActsOn, All-cons, All-nil, AreScalars, after_actions, IsScalar}
 use Rattle.edit_ops.specs.declared.plans.Effects.{Effects}
 use Rattle.edit_ops.specs.declared.plans.Notes.TheVariants.{Undone, Redone}
 use Rattle.edit_ops.proofs.InsertLaws.{stand-moved}
@@ -38,12 +38,13 @@ module _ {content : Content} {outline : Outline} {before moved : Cursor} {at : �
 
   pub put-replayed : {new : Outline} {now : Cursor} {text : List ℕ} {slots : Slots} → Puts text slots moved now
       → slots ≡ shared_slots moved.at (cursor_cells content.cells moved) → at < before.len
+      → before.len + length text < 2 ^ 64
       → new ≡ record outline {
         steps = outline.steps ++ Insert at text slots ∷ [];
         anchors = map (anchors_moved at (length text)) outline.anchors;
       }
       → Replayed content outline new now (put_back at text)
-  put-replayed {new} {now} {text} {slots} puts slots_are within made =
+  put-replayed {new} {now} {text} {slots} puts slots_are within room made =
       let between = after outline.steps content in
       let shared : slots ≡ shared_slots at between.cells = slots_are ∙ ap₂ shared_slots at_is old_cells in
       let long = follows-length content outline before follows in
@@ -55,6 +56,7 @@ module _ {content : Content} {outline : Outline} {before moved : Cursor} {at : �
         follows = record {
           is = puts.is;
           old_len = puts.old_len ∙ moves.old_len ∙ follows.old_len;
+          short = omega (arith, len_is, room);
           cells =
               puts.cells content.cells (sym (moves.old_len ∙ follows.old_len))
               ∙ ap₂ (λ n cells. inserted n (cells_of text slots) cells) at_is old_cells
@@ -116,6 +118,7 @@ module _ {content : Content} {outline : Outline} {before moved : Cursor} {at : �
         follows = record {
           is = takes.is;
           old_len = takes.old_len ∙ moves.old_len ∙ follows.old_len;
+          short = omega (arith, now_len, follows.short);
           cells = cells_are ∙ ap (λ (c : Content). c.cells) (sym content_is);
           fits = subst (λ (d : Outline). Fits d.steps content) (sym made)
               (Fits-append outline.steps (Remove at to ∷ []) content follows.fits (
@@ -239,23 +242,34 @@ can-replay limit action all found bound is =
     ] is
 
 -- the first of the actions are made, and these are left
-pub record ReplayedSoFar (limit : ℕ) (content : Content) (outline now : Outline) (cursor : Cursor) (all left : List Action)
-    (end : Option ℕ) : Type 0 where
+pub record ReplayedSoFar (limit : ℕ) (content : Content) (outline now : Outline) (before cursor : Cursor)
+    (all left : List Action) (end : Option ℕ) : Type 0 where
   pub follows : Follows content now cursor
   pub goes : IsSome (repeated_group limit left (characters (after now.steps content).cells))
   pub ends : end_behind end left ≡ redo_end all
   pub bound : IfSome end (λ at. at ≤ cursor.len)
   pub makes : (log : Log) → group_redone left (drawn_up now content log) ≡ group_redone all (drawn_up outline content log)
+  pub acts : (old : List Cell) → length old ≡ length content.cells
+      → after_actions left (characters (cursor_cells old cursor))
+      ≡ after_actions all (characters (cursor_cells old before))
+  pub scalars : AreScalars left → AreScalars all
 
 pub replay-first : (limit : ℕ) (content : Content) (outline : Outline) (cursor : Cursor) (all : List Action) →
     Follows content outline cursor
     → IsSome (repeated_group limit all (characters (after outline.steps content).cells)) →
-    ReplayedSoFar limit content outline outline cursor all all None
-replay-first limit content outline cursor all follows goes =
-    record { follows = follows; goes = goes; ends = end-behind-none all; bound = tt; makes = λ log. refl }
+    ReplayedSoFar limit content outline outline cursor cursor all all None
+replay-first limit content outline cursor all follows goes = record {
+  follows = follows;
+  goes = goes;
+  ends = end-behind-none all;
+  bound = tt;
+  makes = λ log. refl;
+  acts = λ old long. refl;
+  scalars = λ are. are;
+}
 
-module _ {limit : ℕ} {content : Content} {outline now : Outline} {cursor : Cursor} {all left rest : List Action}
-    {action : Action} {end : Option ℕ} (so_far : ReplayedSoFar limit content outline now cursor all left end)
+module _ {limit : ℕ} {content : Content} {outline now : Outline} {before cursor : Cursor} {all left rest : List Action}
+    {action : Action} {end : Option ℕ} (so_far : ReplayedSoFar limit content outline now before cursor all left end)
     (is : left ≡ action ∷ rest) where
   -- what the action makes of the text, of which the others are made
   next-goes : (next : List ℕ) × (repeated limit action (characters (after now.steps content).cells) ≡ Some next)
@@ -275,8 +289,9 @@ module _ {limit : ℕ} {content : Content} {outline now : Outline} {cursor : Cur
 
   pub replay-more : {new : Outline} {moved : Cursor} {at : ℕ} → Follows content new moved
       → ((log : Log) → drawn_up new content log ≡ action_redone action (drawn_up now content log))
-      → at ≡ action_end action → at ≤ moved.len → Log → ReplayedSoFar limit content outline new moved all rest (Some at)
-  replay-more {new} {moved} {at} follows made at_is within log =
+      → at ≡ action_end action → at ≤ moved.len → ActsOn (action ∷ []) cursor moved → All IsScalar action.text → Log
+      → ReplayedSoFar limit content outline new before moved all rest (Some at)
+  replay-more {new} {moved} {at} follows made at_is within acts scalars log =
       let text_is : characters (after new.steps content).cells ≡ next-goes.0 =
       ap (λ (s : State). characters s.content.cells) (made log)
       ∙ redone-text limit action next-goes.0 (drawn_up now content log) next-goes.1 in
@@ -287,7 +302,22 @@ module _ {limit : ℕ} {content : Content} {outline now : Outline} {cursor : Cur
         bound = within;
         makes = λ log. ap (group_redone rest) (made log) ∙ ap (λ l. group_redone l (drawn_up now content log)) (sym is)
             ∙ so_far.makes log;
+        acts = λ old long.
+            ap (after_actions rest) (acts old (long ∙ sym so_far.follows.old_len))
+            ∙ ap (λ l. after_actions l (characters (cursor_cells old cursor))) (sym is) ∙ so_far.acts old long;
+        scalars = λ are. so_far.scalars (subst AreScalars (sym is)
+            (All-cons (λ (a : Action). All IsScalar a.text) action rest scalars are));
       }
+
+module _ {limit : ℕ} {content : Content} {outline now : Outline} {before cursor : Cursor} {all left : List Action}
+    {end : Option ℕ} (so_far : ReplayedSoFar limit content outline now before cursor all left end) (none : left ≡ [])
+  where
+    pub all-acts : before.old_len ≡ length content.cells → ActsOn all before cursor
+    all-acts counted = λ old long.
+        ap (λ l. after_actions l (characters (cursor_cells old cursor))) (sym none) ∙ so_far.acts old (long ∙ counted)
+
+    pub all-scalars : AreScalars all
+    all-scalars = so_far.scalars (subst AreScalars (sym none) (All-nil (λ (a : Action). All IsScalar a.text)))
 
 -- ---- what a plan leaves
 

@@ -1,25 +1,24 @@
 -- The runs of what parts put in give its cells their slots.
 use Rattle.edit_ops.proofs.Common.{◌≡◌, ℕ, ◌+◌, ◌-◌, ◌<◌, ◌≤◌, List, [], ◌∷◌, ◌++◌, Option, Some, None, map, length}
 use Rattle.edit_ops.proofs.Common.{drop, take, refl, sym, ap, ap₂, ◌∙◌, arith, subst, length-append, slice_range, All}
-use Rattle.edit_ops.proofs.Common.{drop_at, length-map, take_at, All-cons, All-head, All-nil, All-tail, Cell, Content}
-use Rattle.edit_ops.proofs.Common.{Slots, changed, cells_of, map-map, Cursor, Part, parts_len, cells_between}
-use Rattle.edit_ops.proofs.Common.{front_cells, part_cells, source_len, PartFits, Rise, part-length, Hunk, part_hunks}
-use Rattle.edit_ops.proofs.Common.{part_runs, run_of, IsCursorOf, patched_by, append_assoc, map-append, bare_cells}
-use Rattle.edit_ops.proofs.Common.{slotted, with_slots, AreBareRuns}
-use Rattle.edit_ops.specs.declared.slot_runs.SlotRun.{SlotRun}
+use Rattle.edit_ops.proofs.Common.{drop_at, length-map, take_at, All-cons, All-head, All-nil, All-tail, Cell, Slots}
+use Rattle.edit_ops.proofs.Common.{changed, cells_of, map-map, Part, parts_len, cells_between, front_cells, part_cells}
+use Rattle.edit_ops.proofs.Common.{source_len, PartFits, Rise, part-length, Hunk, part_hunks, part_runs, run_of}
+use Rattle.edit_ops.proofs.Common.{patched_by, append_assoc, map-append, bare_cells, slotted, with_slots, AreBareRuns}
+use Rattle.edit_ops.proofs.Common.{SlotRun}
 use Rattle.edit_ops.proofs.DeleteLaws.{length-slice}
 use Rattle.edit_ops.proofs.PartHunkLaws.{front_items, items_between, parts-patched}
 use Rattle.std.specs.FinSet as set
 
 -- ---- what stands between two lists
 
-slice-middle : {A : Type 0} (at end : ℕ) (front middle rest : List A) → length front ≡ at → at + length middle ≡ end
+pub slice-middle : {A : Type 0} (at end : ℕ) (front middle rest : List A) → length front ≡ at → at + length middle ≡ end
     → slice_range (front ++ (middle ++ rest)) at end ≡ middle
 slice-middle at end front middle rest begins ends =
     ap (take (end - at)) (drop_at front (middle ++ rest) at begins)
     ∙ take_at middle rest (end - at) (let e : length middle ≡ end - at = omega (arith, ends) in e)
 
-changed-middle : {A : Type 0} (f : A → A) (at end : ℕ) (front middle rest : List A) → length front ≡ at
+pub changed-middle : {A : Type 0} (f : A → A) (at end : ℕ) (front middle rest : List A) → length front ≡ at
     → at + length middle ≡ end → changed f at end (front ++ (middle ++ rest)) ≡ front ++ (map f middle ++ rest)
 changed-middle f at end front middle rest begins ends =
     ap₂ (λ xs ys. xs ++ ys) (ap₂ (λ xs ys. xs ++ map f ys) (take_at front (middle ++ rest) at begins)
@@ -30,10 +29,10 @@ changed-middle f at end front middle rest begins ends =
 
 -- ---- one part
 
-slots-of : (text : List ℕ) (slots : Slots) → map (with_slots slots) (bare_cells text) ≡ cells_of text slots
+pub slots-of : (text : List ℕ) (slots : Slots) → map (with_slots slots) (bare_cells text) ≡ cells_of text slots
 slots-of text slots = map-map (with_slots slots) (λ character. record { character = character; tags = set.empty }) text
 
-without : (text : List ℕ) → All (λ (cell : Cell). cell.tags ≡ set.empty) (bare_cells text)
+pub without : (text : List ℕ) → All (λ (cell : Cell). cell.tags ≡ set.empty) (bare_cells text)
 without [] = All-nil (λ (cell : Cell). cell.tags ≡ set.empty)
 without (character ∷ text) =
     let cell : Cell = record { character = character; tags = set.empty } in
@@ -46,7 +45,7 @@ items-length None old fresh from to some within = length-slice from to old (omeg
 items-length (Some slots) old fresh from to some within =
     length-map (slice_range fresh from to) _ ∙ length-slice from to fresh (omega (arith, some)) within
 
-runs-lower : (border at : ℕ) (runs : List SlotRun) (cells : List Cell) → border ≤ at → AreBareRuns at runs cells
+pub runs-lower : (border at : ℕ) (runs : List SlotRun) (cells : List Cell) → border ≤ at → AreBareRuns at runs cells
     → AreBareRuns border runs cells
 runs-lower border at [] cells before are = tt
 runs-lower border at (run ∷ runs) cells before are = (let h = are.0 in omega (arith, before, h), are.1, are.2)
@@ -138,18 +137,17 @@ pub record OfParts (old : List Cell) (fresh : List ℕ) (parts : List Part) (hun
   pub hunks_are : hunks ≡ part_hunks 0 [] (length old) fresh parts
   pub runs_are : runs ≡ part_runs 0 parts
 
-pub of-parts : (content : Content) (cursor : Cursor) (len : ℕ) (fresh : List ℕ) (parts : List Part) (hunks : List Hunk)
-    (runs : List SlotRun) → IsCursorOf content cursor → len ≡ length content.cells → Rise 0 cursor.old_len parts
-    → All (PartFits cursor.old_len (length fresh)) parts → hunks ≡ part_hunks 0 [] len fresh parts
-    → runs ≡ part_runs 0 parts → OfParts content.cells fresh parts hunks runs
-of-parts content cursor len fresh parts hunks runs stands long rise fit hunks_are runs_are = record {
-  rise = subst (λ n. Rise 0 n parts) stands.old_len rise;
-  fit = subst (λ n. All (PartFits n (length fresh)) parts) stands.old_len fit;
-  hunks_are = hunks_are ∙ ap (λ n. part_hunks 0 [] n fresh parts) long;
+pub of-parts : {old : List Cell} {len : ℕ} {fresh : List ℕ} {parts : List Part} {hunks : List Hunk}
+    {runs : List SlotRun} → length old ≡ len → Rise 0 len parts → All (PartFits len (length fresh)) parts
+    → hunks ≡ part_hunks 0 [] len fresh parts → runs ≡ part_runs 0 parts → OfParts old fresh parts hunks runs
+of-parts {old} {len} {fresh} {parts} long rise fit hunks_are runs_are = record {
+  rise = subst (λ n. Rise 0 n parts) (sym long) rise;
+  fit = subst (λ n. All (PartFits n (length fresh)) parts) (sym long) fit;
+  hunks_are = hunks_are ∙ ap (λ n. part_hunks 0 [] n fresh parts) (sym long);
   runs_are = runs_are;
 }
 
-bare-append : (text more : List ℕ) → bare_cells (text ++ more) ≡ bare_cells text ++ bare_cells more
+pub bare-append : (text more : List ℕ) → bare_cells (text ++ more) ≡ bare_cells text ++ bare_cells more
 bare-append text more = map-append (λ character. record { character = character; tags = set.empty }) text more
 
 bare-is : (old : List Cell) (fresh : List ℕ) (parts : List Part) (hunks : List Hunk) (runs : List SlotRun)

@@ -1,17 +1,20 @@
 -- What it does to delete spans of what a widget shows.
 use Rattle.std.specs.Prelude.{ℕ, zero, suc, ◌+◌, ◌-◌, ◌<◌, ◌==◌, ◌&&◌, ◌||◌, nat_le, nat_lt, not, Bool, List, [], ◌∷◌}
-use Rattle.std.specs.Prelude.{length, get_or, ⊤, if◌then◌else◌}
+use Rattle.std.specs.Prelude.{length, map, get_or, ⊤, if◌then◌else◌}
 use Rattle.std.specs.List.{list_any}
 use Rattle.text_model.specs.Content.{characters}
+use Rattle.text_model.specs.declared.cells.Cell.{Cell}
 use Rattle.text_model.specs.Lines.{is_newline}
 use Rattle.text_model.specs.Steps.{after_step}
 use Rattle.text_model.specs.declared.edits.Step.TheVariants.{ClearTags}
+use Rattle.undo_stack.specs.declared.actions.Action.{Action}
 use Rattle.undo_stack.specs.declared.actions.EditKind.{EditKind}
 use Rattle.undo_stack.specs.declared.actions.EditKind.TheVariants.{Delete}
 use Rattle.edit_ops.specs.declared.plans.Recording.{Recording}
 use Rattle.edit_ops.specs.declared.spans.Span.{Span}
 use Rattle.edit_ops.specs.Removals.{removed_span}
 use Rattle.edit_ops.specs.States.{State}
+use Rattle.edit_ops.specs.Told.{deletion}
 
 -- whether an offset lies in one of some spans
 abbrev pub in_spans : List Span → ℕ → Bool
@@ -62,3 +65,9 @@ deleted recording start end spans state =
     (runs_below (length state.content.cells) (delete_set (characters state.content.cells) start end (in_spans spans)))
     (if in_spans spans (end - 1) then record state { content = after_step (ClearTags (end - 1)) state.content }
     else state)
+
+-- what it does to the text to delete spans of what a widget shows: a deletion of each run, the last first
+abbrev pub deletions_in : List Cell → ℕ → ℕ → List Span → List Action
+deletions_in cells start end spans =
+    map (λ (run : Span). deletion (characters cells) run.from run.to)
+    (runs_below (length cells) (delete_set (characters cells) start end (in_spans spans)))

@@ -2,7 +2,7 @@
 use Rattle.std.specs.Prelude.{◌≡◌, ◌<◌, ℕ, ◌+◌, ◌==◌, Bool, true, List, [], ◌∷◌, length, map, get_or, sum_by, Option}
 use Rattle.std.specs.Prelude.{None, Some, if◌then◌else◌, encode_utf8_all}
 use Rattle.std.specs.FinSet as set
-use Rattle.std.specs.List.{list_any}
+use Rattle.std.specs.List.{flat_map, list_any}
 use Rattle.std.specs.Option.{is_none}
 use Rattle.text_model.specs.declared.cells.Cell.{Cell}
 use Rattle.text_model.specs.Content.{Slots, slot_sets}
@@ -39,6 +39,10 @@ inserted_texts recording kind at (piece ∷ pieces) state =
 -- how many characters the texts have
 abbrev pub total : List SlottedText → ℕ
 total pieces = sum_by (λ (piece : SlottedText). length piece.text) pieces
+
+-- the texts, one after the other
+abbrev pub pieces_text : List SlottedText → List ℕ
+pieces_text pieces = flat_map (λ (piece : SlottedText). piece.text) pieces
 
 -- how many bytes the texts have
 abbrev pub total_bytes : List SlottedText → ℕ

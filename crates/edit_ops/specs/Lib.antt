@@ -1,5 +1,7 @@
 pub mod Anchors
 pub mod Deletions
+pub mod Deltas
+pub mod Inserted
 pub mod Insertions
 pub mod Keeping
 pub mod Orders

@@ -1,6 +1,7 @@
 -- A group of actions is made once more, or reverted, by an outline with a cursor in what it makes.
-use Rattle.std.specs.Prelude.{◌≡◌, ℕ, ◌+◌, Bool, true, false, not, List, map, length, reverse, Option, None, Some}
-use Rattle.std.specs.Prelude.{if◌then◌else◌}
+use Rattle.std.specs.Prelude.{◌≡◌, ◌<◌, ◌^◌, ℕ, ◌+◌, Bool, true, false, not, List, map, length, reverse, Option, None}
+use Rattle.std.specs.Prelude.{Some, if◌then◌else◌}
+use Rattle.std.specs.Char.{IsScalar}
 use Rattle.std.specs.List.{All}
 use Rattle.text_model.specs.Content.{Content, characters}
 use Rattle.text_model.specs.declared.cells.Cell.{Cell}
@@ -17,30 +18,22 @@ use Rattle.edit_ops.specs.States.{State, Log, Outline, state_of}
 pub record Follows (content : Content) (outline : Outline) (cursor : Cursor) : Type 0 where
   pub is : IsCursor cursor
   pub old_len : cursor.old_len ≡ length content.cells
+  pub short : cursor.len < 2 ^ 64
   pub cells : cursor_cells content.cells cursor ≡ (after outline.steps content).cells
   pub fits : Fits outline.steps content
   pub stand : All (AnchorsStand cursor.len) outline.anchors
-
--- a cursor is in a text on the way from that of a content
-pub record IsCursorOf (content : Content) (cursor : Cursor) : Type 0 where
-  pub is : IsCursor cursor
-  pub old_len : cursor.old_len ≡ length content.cells
-
--- the characters of that text
-abbrev pub cursor_text : Content → Cursor → List ℕ
-cursor_text content cursor = characters (cursor_cells content.cells cursor)
-
--- What is made of the cells in which a cursor is leads to those in which it is afterwards.
-abbrev pub MakesCells : Content → (State → State) → Cursor → Cursor → Type 0
-MakesCells content make before now =
-    (state : State) → state.content.cells ≡ cursor_cells content.cells before
-    → (make state).content.cells ≡ cursor_cells content.cells now
 
 -- Actions lead from the text in which a cursor is to that in which it is afterwards, whatever the old text is.
 abbrev pub ActsOn : List Action → Cursor → Cursor → Type 0
 ActsOn actions before now =
     (old : List Cell) → length old ≡ before.old_len
     → characters (cursor_cells old now) ≡ after_actions actions (characters (cursor_cells old before))
+
+-- They lead from the old text to that in which a cursor is.
+abbrev pub Leads : List Action → Cursor → Type 0
+Leads actions now =
+    (old : List Cell) → length old ≡ now.old_len
+    → characters (cursor_cells old now) ≡ after_actions actions (characters old)
 
 -- what an outline makes, of which nothing is noted
 abbrev pub drawn_up : Outline → Content → Log → State
@@ -66,3 +59,7 @@ replayed_group mark None state = state
 replayed_group mark (Some group) state =
     let made = group_redone group state in
     record made { content = stood mark (redo_end group) state.content made.content }
+
+-- the texts of actions are of Unicode scalar values
+abbrev pub AreScalars : List Action → Type 0
+AreScalars actions = All (λ (action : Action). All IsScalar action.text) actions

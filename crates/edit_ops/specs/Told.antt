@@ -162,6 +162,11 @@ abbrev pub replacing : ℕ → ℕ → List ℕ → List Hunk
 replacing from to [] = taking_out from to
 replacing from to (character ∷ text) = record { from = from; to = to; text = character ∷ text } ∷ []
 
+-- a list without spans, of which the last comes first
+abbrev pub removed_all : {A : Type 0} → List Span → List A → List A
+removed_all [] list = list
+removed_all (span ∷ spans) list = removed_all spans (removed span.from span.to list)
+
 -- hunks that delete spans, of which the last comes first
 abbrev pub taking : List Span → List Hunk
 taking spans = map (λ (span : Span). record { from = span.from; to = span.to; text = [] }) (reverse spans)

@@ -1,20 +1,27 @@
 ghost use Rattle.std.specs.Prelude.{◌≡◌, true, ℕ, ◌+◌, ◌-◌, ◌<◌, ◌≤◌, ◌^◌, ◌&&◌, ◌∷◌, [], nat_le, nat_lt};
-ghost use Rattle.std.specs.Prelude.{get_or, length, OnOk, IfOk, IfErr, if◌then◌else◌};
+ghost use Rattle.std.specs.Prelude.{get_or, length, map, slice_get, sum_by, OnOk, IfOk, IfErr, Some, if◌then◌else◌};
 ghost use Rattle.std.specs.List.{All};
-ghost use Rattle.edit_ops.specs.Deletions.{in_spans, delete_set, runs_below, AreApart, deleted, removed_spans};
+ghost use Rattle.edit_ops.specs.Deletions.{in_spans, delete_set, deletions_in, runs_below, AreApart, deleted};
+ghost use Rattle.edit_ops.specs.Deletions.{removed_spans};
+ghost use Rattle.edit_ops.specs.Deltas.{KnowsDelta};
+ghost use Rattle.edit_ops.specs.Told.{deletion, removed_all};
 ghost use Rattle.edit_ops.specs.Plans.{planned, HasRoomFor, KeepsWidgets};
 ghost use Rattle.edit_ops.specs.States.{State, Log, log_of, state_of, state_in, outlineed, IsUnchanged};
-ghost use Rattle.text_model.specs.Content.{characters};
+ghost use Rattle.text_model.specs.Content.{characters, slot_sets};
 ghost use Rattle.text_model.specs.Lines.{is_newline};
-ghost use Rattle.text_model.specs.Steps.{Fits, after};
+ghost use Rattle.text_model.specs.Splices.{changed};
+ghost use Rattle.text_model.specs.Steps.{Fits, after, without_slots};
 ghost use Rattle.edit_ops.specs.declared.plans.Recording.{Recording};
 
+use crate::deltas::Delta;
 use crate::faults::EditFault;
+use crate::hunks::take_spans;
 use crate::outlines::{Outline, kept_text};
-use crate::plans::{Plan, Recording, prepare};
+use crate::plans::{Plan, prepare};
 use crate::runs::{spare_last, union};
+use crate::slot_runs::SlotRun;
 use crate::spans::Span;
-use crate::texts::EditedText;
+use crate::texts::{EditRules, EditedText};
 use std::alloc::{AllocError, Global};
 use text_cursor::{line_at, line_behind};
 use text_model::{Step, StepList, TextStore};
@@ -131,44 +138,110 @@ pub fn deleted_runs<S: TextStore>(
     Ok((runs, takes_last))
 }
 
-/// The edit that deletes spans of what a widget shows, with the texts of its actions where these are to be kept.
+/// Returns the number of characters in spans, of which the last comes first.
+fn count_in(spans: &[Span]) -> usize
+    requires { AreApart (2 ^ 64) spans.now }
+    ensures { result ≡ sum_by (λ span. span.to - span.from) spans.now }
+{
+    let mut count = 0;
+    for span in spans {
+        count += span.to - span.from;
+    }
+    count
+}
+
+/// Returns the character before an offset with its slots, at its place in the text without runs before it, of which the
+/// last comes first.
+fn run_before<S: TextStore>(store: &S, runs: &[Span], end: usize) -> SlotRun
+    requires some { 0 < end }
+    requires within { end ≤ length (S.content store.now).cells }
+    requires apart { AreApart end runs.now }
+    ensures start { result.from + sum_by (λ span. span.to - span.from) runs.now ≡ end - 1 }
+    ensures one { result.to ≡ result.from + 1 }
+    ensures slots { slice_get (slot_sets (S.content store.now).cells) (end - 1) ≡ Some result.slots }
+{
+    let last = end - 1;
+    let from = last - count_in(runs);
+    SlotRun {
+        from,
+        to: from + 1,
+        slots: store.tags_at(last),
+    }
+}
+
+/// The delta of an edit that deletes runs before an offset, the last first, if its caller follows: the character before
+/// the offset, if it is bared, loses its slots.
+fn deletion_delta<S: TextStore>(
+    rules: &EditRules<'_>,
+    store: &S,
+    runs: Vec<Span>,
+    end: usize,
+    is_bared: bool,
+) -> Result<Option<Delta>, AllocError>
+    requires some { 0 < end }
+    requires within { end ≤ length (S.content store.now).cells }
+    requires apart { AreApart end runs.items }
+    ensures { let cells = (S.content store.now).cells in
+        let left = (if is_bared then changed without_slots (end - 1) end cells else cells) in
+        IfOk result (λ delta. KnowsDelta rules.now.follows
+        (map (λ run. deletion (characters cells) run.from run.to) runs.items) cells
+        (removed_all runs.items left) delta) }
+{
+    if !rules.follows {
+        return Ok(None);
+    }
+    let lost = if is_bared {
+        Some(Box::new(rules.alloc, run_before(store, &runs, end))?)
+    } else {
+        None
+    };
+    Ok(Some(Delta {
+        hunks: take_spans(rules.alloc, runs)?,
+        lost,
+        gained: Vec::new(rules.alloc),
+    }))
+}
+
+/// The edit that deletes spans of what a widget shows, and its delta, if the caller follows.
 fn outline_delete<S: TextStore>(
-    alloc: Global,
+    rules: &EditRules<'_>,
     text: &EditedText<S>,
     start: usize,
     end: usize,
     spans: &[Span],
-    keeps: bool,
-) -> Result<Outline, AllocError>
+) -> Result<(Outline, Option<Delta>), AllocError>
     requires shows { start < end }
     requires within { end ≤ length (S.content text.now.store).cells }
     requires spans { All (λ span. span.to ≤ end) spans.now }
-    ensures widgets { IfOk result (λ outline. length outline.anchors ≡ length text.now.anchors.items) }
-    ensures makes { IfOk result (λ outline. (recording : Recording) (log : Log)
-        → (recording.undo ≡ true → keeps ≡ true) →
-        Fits outline.steps (S.content text.now.store) ×
-        (outlineed recording EditKind.Delete outline (state_of (S.content text.now.store) text.now.anchors.items log)
-        ≡ deleted recording start end spans.now (state_of (S.content text.now.store) text.now.anchors.items log))) }
+    ensures widgets { IfOk result (λ made. length made.0.anchors ≡ length text.now.anchors.items) }
+    ensures makes { IfOk result (λ made. (log : Log) → Fits made.0.steps (S.content text.now.store) ×
+        (outlineed rules.now.recording EditKind.Delete made.0
+        (state_of (S.content text.now.store) text.now.anchors.items log)
+        ≡ deleted rules.now.recording start end spans.now
+        (state_of (S.content text.now.store) text.now.anchors.items log))) }
+    ensures delta { IfOk result (λ made. KnowsDelta rules.now.follows
+        (deletions_in (S.content text.now.store).cells start end spans.now) (S.content text.now.store).cells
+        (after made.0.steps (S.content text.now.store)).cells made.1) }
 {
     let store = &text.store;
-    let (runs, takes_last) = deleted_runs(alloc, store, start, end, spans)?;
-    let steps = bare(alloc, end - 1, takes_last)?;
-    let mut outline = Outline::of_steps(alloc, text, steps, runs.len())?;
-    outline.remove_spans(alloc, store, &runs, keeps)?;
-    Ok(outline)
+    let (runs, takes_last) = deleted_runs(rules.alloc, store, start, end, spans)?;
+    let steps = bare(rules.alloc, end - 1, takes_last)?;
+    let mut outline = Outline::of_steps(rules.alloc, text, steps, runs.len())?;
+    outline.remove_spans(rules.alloc, store, &runs, rules.recording.undo)?;
+    let delta = deletion_delta(rules, store, runs, end, takes_last)?;
+    Ok((outline, delta))
 }
 
 /// A plan that deletes spans, in any order, of what a widget shows from `start` to `end`; spans may overlap or be
 /// empty. The last character that it shows stays, and if it is in a span it loses its tags; then a newline before the
-/// run that held it goes in its place, if the widget shows that. What goes is taken out run by run, the last first, and
+/// run that held it goes in its place, if the widget shows that. The runs are deleted one by one, the last first, and
 /// each run is an action (text(n), "delete").
 pub fn plan_delete<S: TextStore>(
-    alloc: Global,
+    rules: &EditRules<'_>,
     text: &mut EditedText<S>,
     start: usize,
     end: usize,
     spans: &[Span],
-    recording: Recording,
 ) -> Result<Plan<S>, EditFault>
     requires shows { start < end }
     requires within { end ≤ length (S.content text.old.store).cells }
@@ -180,8 +253,11 @@ pub fn plan_delete<S: TextStore>(
     ensures widgets { IfOk result (λ plan. KeepsWidgets plan.effects text.old.anchors.items) }
     ensures outcome { IfOk result (λ plan.
         planned plan.effects (S.outcome text.new.store plan.prepared) text.old.anchors.items (log_of text.old.history)
-        ≡ deleted recording start end spans.now (state_in S.content text.old)) }
+        ≡ deleted rules.now.recording start end spans.now (state_in S.content text.old)) }
+    ensures delta { IfOk result (λ plan. KnowsDelta rules.now.follows
+        (deletions_in (S.content text.old.store).cells start end spans.now) (S.content text.old.store).cells
+        (S.outcome text.new.store plan.prepared).cells plan.delta) }
 {
-    let outline = outline_delete(alloc, text, start, end, spans, recording.undo)?;
-    Ok(prepare(text, outline, EditKind::Delete, recording)?)
+    let (outline, delta) = outline_delete(rules, text, start, end, spans)?;
+    Ok(prepare(text, outline, EditKind::Delete, rules.recording, delta)?)
 }

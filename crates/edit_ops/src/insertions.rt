@@ -1,12 +1,16 @@
 ghost use Rattle.std.specs.Prelude.{◌≡◌, ◌≢◌, ◌+◌, ◌<◌, ◌≤◌, ◌^◌, ◌↔◌, ◌-◌, nat_lt, min, length, OnOk, IfOk, Err};
-ghost use Rattle.std.specs.Prelude.{true, false, Some, slice_get};
+ghost use Rattle.std.specs.Prelude.{true, false, Some, slice_get, ◌∷◌, []};
 ghost use Rattle.std.specs.FinSet as set;
 ghost use Rattle.std.specs.List.{All};
 ghost use Rattle.edit_ops.specs.Anchors.{AnchorsStand};
-ghost use Rattle.edit_ops.specs.Insertions.{inserted_texts, needs_shared, slots_or, total, total_bytes, IsBetween};
+ghost use Rattle.edit_ops.specs.Deltas.{KnowsDelta};
+ghost use Rattle.edit_ops.specs.Inserted.{GoesOn, PutInPlace};
+ghost use Rattle.edit_ops.specs.Insertions.{inserted_texts, needs_shared, pieces_text, slots_or, total, total_bytes};
+ghost use Rattle.edit_ops.specs.Insertions.{IsBetween};
 ghost use Rattle.edit_ops.specs.Plans.{planned, HasRoomFor, KeepsWidgets};
 ghost use Rattle.edit_ops.specs.declared.plans.Recording.{Recording};
 ghost use Rattle.edit_ops.specs.States.{State, Log, log_of, state_of, state_in, outlineed, IsUnchanged};
+ghost use Rattle.edit_ops.specs.Told.{insertion};
 ghost use Rattle.text_model.specs.Content.{slot_sets, slots_left_of};
 ghost use Rattle.text_model.specs.Steps.{Fits, after};
 
@@ -143,6 +147,7 @@ impl Outline {
             × (length (after self.new.steps state.content).cells ≡ len + total pieces.items) ×
             (outlineed recording kind self.new state
             ≡ inserted_texts recording kind at pieces.items (outlineed recording kind self.old state))) }
+        ensures steps { OnOk result (GoesOn at pieces.items self.old.steps self.new.steps) }
     {
         let mut at = at;
         let mut len = len;
@@ -179,6 +184,8 @@ fn outline_insert<S: TextStore>(
         (outlineed recording kind outline (state_of (S.content text.now.store) text.now.anchors.items log)
         ≡ inserted_texts recording kind at pieces.items
         (state_of (S.content text.now.store) text.now.anchors.items log))) }
+    ensures put { IfOk result (λ outline. PutInPlace at at pieces.items (S.content text.now.store).cells
+        (after outline.steps (S.content text.now.store)).cells outline.steps) }
 {
     let mut outline = Outline::new(alloc, text, pieces.len())?;
     let store = &text.store;
@@ -209,10 +216,14 @@ pub fn plan_insert<S: TextStore>(
     ensures outcome { IfOk result (λ plan.
         planned plan.effects (S.outcome text.new.store plan.prepared) text.old.anchors.items (log_of text.old.history)
         ≡ inserted_texts rules.now.recording EditKind.Insert at pieces.items (state_in S.content text.old)) }
+    ensures delta { IfOk result (λ plan.
+        KnowsDelta rules.now.follows (insertion at (pieces_text pieces.items) ∷ []) (S.content text.old.store).cells
+        (S.outcome text.new.store plan.prepared).cells plan.delta) }
 {
     if is_too_long(rules.limits, text.store.len(), &pieces) {
         return Err(EditFault::TextTooLong);
     }
     let outline = outline_insert(rules.alloc, text, at, pieces, rules.recording.undo)?;
-    Ok(prepare(text, outline, EditKind::Insert, rules.recording)?)
+    let delta = outline.delta_of_texts(rules.follows, at, at)?;
+    Ok(prepare(text, outline, EditKind::Insert, rules.recording, delta)?)
 }

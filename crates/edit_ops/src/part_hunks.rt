@@ -1,19 +1,23 @@
-//! Hunks of an old text: what becomes of it where a text is made of parts of it and of new texts.
+//! The delta of a text that is made of parts of an old one and of new texts.
 
 ghost use Rattle.std.specs.Prelude.{◌≡◌, ◌<◌, ◌≤◌, ◌^◌, ◌++◌, ◌∷◌, [], List, length, chars, string_bytes, IfOk, OnOk};
 ghost use Rattle.std.specs.List.{All};
+ghost use Rattle.edit_ops.specs.Deltas.{KnowsDelta};
+ghost use Rattle.edit_ops.specs.Replays.{Leads};
 ghost use Rattle.edit_ops.specs.PartHunks.{hunks_before, part_hunks, part_runs, pending_after};
 ghost use Rattle.edit_ops.specs.Told.{AreHunks, AreSeparate, patched, replacing};
-ghost use Rattle.text_cursor.specs.Cursors.{front_cells, old_place, source_len, PartFits, Rise};
+ghost use Rattle.text_cursor.specs.Cursors.{cursor_cells, front_cells, old_place, source_len, IsCursor, PartFits, Rise};
 ghost use Rattle.text_cursor.specs.Parts.{parts_len};
 ghost use Rattle.text_model.specs.Content.{characters};
 ghost use Rattle.text_model.specs.declared.cells.Cell.{Cell};
+ghost use Rattle.undo_stack.specs.declared.actions.Action.{Action};
 
+use crate::deltas::Delta;
 use crate::hunks::{Hunk, push_replacement};
 use crate::slot_runs::SlotRun;
 use std::alloc::{AllocError, Global};
 use std::mem;
-use text_cursor::{Part, TextParts};
+use text_cursor::{Cursor, Part, TextParts};
 use text_model::Text;
 
 /// Adds a character to a text.
@@ -76,7 +80,7 @@ impl HunkWriter {
 }
 
 /// Returns the hunks of an old text of so many characters that make a text of these parts of it.
-pub fn hunks_of(alloc: Global, parts: &TextParts, len: usize) -> Result<Vec<Hunk>, AllocError>
+fn hunks_of(alloc: Global, parts: &TextParts, len: usize) -> Result<Vec<Hunk>, AllocError>
     requires rising { Rise 0 len parts.now.parts.items }
     requires fit { All (PartFits len (length parts.now.fresh.items)) parts.now.parts.items }
     ensures hunks { IfOk result (λ hunks.
@@ -102,7 +106,7 @@ pub fn hunks_of(alloc: Global, parts: &TextParts, len: usize) -> Result<Vec<Hunk
 }
 
 /// The runs of what is put in, in the text that these parts make, with its slots.
-pub fn runs_of(alloc: Global, parts: &TextParts) -> Result<Vec<SlotRun>, AllocError>
+fn runs_of(alloc: Global, parts: &TextParts) -> Result<Vec<SlotRun>, AllocError>
     requires some { All (λ part. part.from < part.to) parts.now.parts.items }
     requires short { parts_len parts.now.parts.items < 2 ^ 64 }
     ensures { IfOk result (λ runs. runs.items ≡ part_runs 0 parts.now.parts.items) }
@@ -121,4 +125,25 @@ pub fn runs_of(alloc: Global, parts: &TextParts) -> Result<Vec<SlotRun>, AllocEr
         at = end;
     }
     Ok(runs)
+}
+
+/// Returns the delta of an edit if its caller follows. The cursor is in the text that the edit makes.
+pub fn delta_of(alloc: Global, cursor: Cursor, follows: bool) -> Result<Option<Delta>, AllocError>
+    requires cursor { IsCursor cursor }
+    requires short { cursor.len < 2 ^ 64 }
+    ensures { IfOk result (λ delta. (actions : List Action) (old : List Cell) → length old ≡ cursor.old_len →
+        Leads actions cursor → KnowsDelta follows actions old (cursor_cells old cursor) delta) }
+{
+    if !follows {
+        return Ok(None);
+    }
+    let len = cursor.old_len;
+    let parts = cursor.into_parts(alloc)?;
+    let hunks = hunks_of(alloc, &parts, len)?;
+    let gained = runs_of(alloc, &parts)?;
+    Ok(Some(Delta {
+        hunks,
+        lost: None,
+        gained,
+    }))
 }

@@ -4,6 +4,7 @@ ghost use Rattle.edit_ops.specs.Plans.{anchors_left, log_after, planned, HasRoom
 ghost use Rattle.edit_ops.specs.States.{log_of, state_in, all_noted, outlineed, IsUnchanged};
 
 use crate::anchors::Anchors;
+use crate::deltas::Delta;
 use crate::outlines::Outline;
 use crate::texts::EditedText;
 use std::alloc::AllocError;
@@ -43,6 +44,8 @@ pub struct Plan<S: TextStore> {
     prepared: S::Prepared,
     // none where no character comes or goes, as where spans are tagged
     effects: Option<Effects>,
+    /// What the plan does to the text and its tags, if the caller follows these.
+    pub delta: Option<Delta>,
 }
 
 /// Notes actions of an edit of a kind, for which there is room.
@@ -84,6 +87,7 @@ pub fn prepare_steps<S: TextStore>(
     text: &mut EditedText<S>,
     steps: StepList,
     effects: Option<Effects>,
+    delta: Option<Delta>,
 ) -> Result<Plan<S>, AllocError>
     requires { Fits steps (S.content text.old.store) }
     ensures same { IsUnchanged S.content text.old text.new }
@@ -92,9 +96,14 @@ pub fn prepare_steps<S: TextStore>(
     ensures outcome { IfOk result (λ plan.
         S.outcome text.new.store plan.prepared ≡ after steps (S.content text.old.store)) }
     ensures effects { IfOk result (λ plan. plan.effects ≡ effects) }
+    ensures delta { IfOk result (λ plan. plan.delta ≡ delta) }
 {
     let prepared = text.store.prepare_owned(Edit { steps })?;
-    Ok(Plan { prepared, effects })
+    Ok(Plan {
+        prepared,
+        effects,
+        delta,
+    })
 }
 
 /// Makes a plan of an outline, with all memory that it takes. Nothing that can be seen changes.
@@ -103,6 +112,7 @@ pub fn prepare<S: TextStore>(
     outline: Outline,
     kind: EditKind,
     recording: Recording,
+    delta: Option<Delta>,
 ) -> Result<Plan<S>, AllocError>
     requires { Fits outline.steps (S.content text.old.store) }
     ensures same { IsUnchanged S.content text.old text.new }
@@ -112,6 +122,9 @@ pub fn prepare<S: TextStore>(
         planned plan.effects (S.outcome text.new.store plan.prepared) text.old.anchors.items (log_of text.old.history)
         ≡ outlineed recording kind outline (state_in S.content text.old)) }
     ensures widgets { IfOk result (λ plan. anchors_left plan.effects text.old.anchors.items ≡ outline.anchors) }
+    ensures delta { IfOk result (λ plan. plan.delta ≡ delta) }
+    ensures content { IfOk result (λ plan.
+        S.outcome text.new.store plan.prepared ≡ after outline.steps (S.content text.old.store)) }
 {
     if recording.undo {
         text.history.reserve(outline.actions.len())?;
@@ -123,7 +136,7 @@ pub fn prepare<S: TextStore>(
         ..
     } = outline;
     let notes = Notes::Made(kind, actions, recording);
-    prepare_steps(text, steps, Some(Effects { anchors, notes }))
+    prepare_steps(text, steps, Some(Effects { anchors, notes }), delta)
 }
 
 /// Carries out a plan, which can't fail. The text has to be as the call that made the plan left it.
@@ -133,8 +146,13 @@ pub fn commit<S: TextStore>(plan: Plan<S>, text: &mut EditedText<S>)
     ensures { state_in S.content text.new ≡ planned plan.effects (S.outcome text.old.store plan.prepared)
         text.old.anchors.items (log_of text.old.history) }
 {
-    text.store.commit(plan.prepared);
-    let Some(effects) = plan.effects else {
+    let Plan {
+        prepared,
+        effects,
+        ..
+    } = plan;
+    text.store.commit(prepared);
+    let Some(effects) = effects else {
         return;
     };
     text.anchors = effects.anchors;

@@ -1,7 +1,9 @@
 ghost use Rattle.std.specs.Prelude.{◌≡◌, ◌+◌, ◌-◌, ◌<◌, ◌≤◌, ◌^◌, ◌↔◌, true, min, length, option_and_then, IfOk, Err};
 ghost use Rattle.std.specs.List.{All};
 ghost use Rattle.edit_ops.specs.Anchors.{AnchorsStand};
-ghost use Rattle.edit_ops.specs.Insertions.{total};
+ghost use Rattle.edit_ops.specs.Deltas.{KnowsDelta};
+ghost use Rattle.edit_ops.specs.Inserted.{removal_steps, replacement, PutInPlace};
+ghost use Rattle.edit_ops.specs.Insertions.{pieces_text, total};
 ghost use Rattle.edit_ops.specs.Removals.{clipped, removed_span, replaced_span, replaced};
 ghost use Rattle.edit_ops.specs.Plans.{planned, HasRoomFor, KeepsWidgets};
 ghost use Rattle.edit_ops.specs.declared.plans.Recording.{Recording};
@@ -38,6 +40,7 @@ fn outline_removal<S: TextStore>(
     ensures stand { IfOk result (λ outline. All (AnchorsStand (length (S.content text.now.store).cells - (to - from)))
         outline.anchors) }
     ensures fits { IfOk result (λ outline. Fits outline.steps (S.content text.now.store)) }
+    ensures steps { IfOk result (λ outline. outline.steps ≡ removal_steps from to) }
     ensures cells { IfOk result (λ outline. (after outline.steps (S.content text.now.store)).cells
         ≡ removed from to (S.content text.now.store).cells) }
     ensures makes { IfOk result (λ outline. (recording : Recording) (kind : EditKind) (log : Log) →
@@ -92,6 +95,8 @@ fn outline_replace<S: TextStore>(
         outlineed recording EditKind.Replace outline (state_of (S.content text.now.store) text.now.anchors.items log)
         ≡ replaced_span recording mark.0 from to pieces.items
         (state_of (S.content text.now.store) text.now.anchors.items log)) }
+    ensures put { IfOk result (λ outline. PutInPlace from to pieces.items (S.content text.now.store).cells
+        (after outline.steps (S.content text.now.store)).cells outline.steps) }
 {
     let mut outline = outline_removal(alloc, text, from, to, pieces.len() + 2, keeps)?;
     let store = &text.store;
@@ -129,6 +134,10 @@ pub fn plan_replace<S: TextStore>(
         planned plan.effects (S.outcome text.new.store plan.prepared) text.old.anchors.items (log_of text.old.history)
         ≡ replaced rules.now.recording target.mark.0 target.last target.from target.to pieces.items
         (state_in S.content text.old)) }
+    ensures delta { IfOk result (λ plan. KnowsDelta rules.now.follows
+        (replacement (S.content text.old.store).cells (min target.from target.last) (min target.to target.last)
+        (pieces_text pieces.items))
+        (S.content text.old.store).cells (S.outcome text.new.store plan.prepared).cells plan.delta) }
 {
     if target.to < target.from {
         return Err(EditFault::IndexOrder);
@@ -140,5 +149,6 @@ pub fn plan_replace<S: TextStore>(
     }
     let keeps = rules.recording.undo;
     let outline = outline_replace(rules.alloc, text, from, to, pieces, target.mark, keeps)?;
-    Ok(prepare(text, outline, EditKind::Replace, rules.recording)?)
+    let delta = outline.delta_of_texts(rules.follows, from, to)?;
+    Ok(prepare(text, outline, EditKind::Replace, rules.recording, delta)?)
 }

@@ -1,10 +1,12 @@
-ghost use Rattle.std.specs.Prelude.{◌≡◌, ◌+◌, ◌-◌, ◌<◌, ◌≤◌, ◌^◌, not, length, option_map, OnOk, IfOk, IfErr, Some};
-ghost use Rattle.std.specs.Prelude.{IsSome, IfSome, true, false, if◌then◌else◌};
+ghost use Rattle.std.specs.Prelude.{◌≡◌, ◌+◌, ◌-◌, ◌<◌, ◌≤◌, ◌^◌, ◌∷◌, [], not, length, option_map, OnOk, IfOk, Some};
+ghost use Rattle.std.specs.Prelude.{IsSome, IfSome, true, false, if◌then◌else◌, List, ℕ};
 ghost use Rattle.std.specs.Prelude.{option_and_then};
+ghost use Rattle.std.specs.Char.{IsScalar};
 ghost use Rattle.std.specs.List.{All};
 ghost use Rattle.edit_ops.specs.Anchors.{AnchorsStand};
+ghost use Rattle.edit_ops.specs.Deltas.{KnowsDelta};
 ghost use Rattle.edit_ops.specs.Plans.{anchors_left, planned, HasRoomFor, KeepsWidgets};
-ghost use Rattle.edit_ops.specs.Replays.{Follows, drawn_up, replays, replayed_group};
+ghost use Rattle.edit_ops.specs.Replays.{ActsOn, AreScalars, Follows, drawn_up, replays, replayed_group};
 ghost use Rattle.edit_ops.specs.Reversals.{put_back, taken_back, action_redone, group_redone, redo_end, stood, undone};
 ghost use Rattle.edit_ops.specs.Reversals.{redone};
 ghost use Rattle.edit_ops.specs.States.{Log, log_of, state_of, state_in, IsUnchanged};
@@ -12,20 +14,22 @@ ghost use Rattle.text_model.specs.Content.{characters};
 ghost use Rattle.text_model.specs.Steps.{Fits, after};
 ghost use Rattle.text_model.specs.declared.places.Place.{Place};
 ghost use Rattle.undo_stack.specs.Fits.{repeated_group, FitsText};
+ghost use Rattle.undo_stack.specs.History.{next_redo, next_undo};
+ghost use Rattle.text_model.specs.LimitTable.{AreLimits};
 
-use crate::faults::EditFault;
-use crate::insertions::count_of;
+use crate::deltas::Delta;
 use crate::orders::put_in_order;
 use crate::outlines::Outline;
+use crate::part_hunks::delta_of;
 use crate::plans::{Effects, Notes, Plan, prepare_steps};
-use crate::texts::EditedText;
-use std::alloc::{AllocError, Global};
+use crate::texts::{EditRules, EditedText};
+use std::alloc::AllocError;
 use text_cursor::Cursor;
-use text_model::{Limits, MarkNo, Place, Text, TextStore};
+use text_model::{MarkNo, Place, Text, TextStore, count_characters};
 use undo_stack::{Action, Group};
 
 /// Whether an action puts its text in, as it is made once more, or reverted.
-pub fn puts_in(action: &Action, back: bool) -> bool
+fn puts_in(action: &Action, back: bool) -> bool
     ensures { result ≡ (if back then not action.now.inserts else action.now.inserts) }
 {
     if back {
@@ -36,7 +40,7 @@ pub fn puts_in(action: &Action, back: bool) -> bool
 }
 
 /// Which of so many actions is the one at an index, counted from the last where they are reverted.
-pub fn nth_of(index: usize, count: usize, back: bool) -> usize
+fn nth_of(index: usize, count: usize, back: bool) -> usize
     requires { index < count }
     ensures place { result ≡ (if back then count - 1 - index else index) }
     ensures within { result < count }
@@ -75,6 +79,8 @@ impl Outline {
         ensures makes { OnOk result ((log : Log) →
             drawn_up self.new (S.content store.now) log
             ≡ put_back at text.now (drawn_up self.old (S.content store.now) log)) }
+        ensures acts { OnOk result
+            (ActsOn (record { inserts = true; at = at; text = text.now } ∷ []) cursor.old cursor.new) }
     {
         cursor.seek(at)?;
         let slots = cursor.shared(store);
@@ -99,9 +105,9 @@ impl Outline {
         ensures makes { OnOk result ((log : Log) →
             drawn_up self.new (S.content store.now) log
             ≡ taken_back from to (drawn_up self.old (S.content store.now) log)) }
+        ensures acts { OnOk result ((text : List ℕ) → from + length text ≡ to →
+            ActsOn (record { inserts = false; at = from; text = text } ∷ []) cursor.old cursor.new) }
     {
-        // Read, so that the prover sees its range.
-        let _len = cursor.len;
         cursor.seek(from)?;
         cursor.remove(to - from)?;
         let line = cursor.line(store);
@@ -130,10 +136,11 @@ impl Outline {
             drawn_up self.new (S.content store.now) log
             ≡ action_redone (record { inserts = inserts; at = at; text = text.now })
             (drawn_up self.old (S.content store.now) log)) }
+        ensures acts { OnOk result
+            (ActsOn (record { inserts = inserts; at = at; text = text.now } ∷ []) cursor.old cursor.new) }
+        ensures scalars { OnOk result (All IsScalar text.now) }
     {
-        // Read, so that the prover sees its range.
-        let _len = cursor.len;
-        let count = count_of(text);
+        let count = count_characters(text.as_str());
         if inserts {
             self.put_back(store, cursor, at, text, count)?;
             Ok(at + count)
@@ -161,6 +168,8 @@ impl Outline {
         ensures makes { OnOk result ((log : Log) →
             drawn_up self.new (S.content store.now) log
             ≡ group_redone (replays back group.now) (drawn_up self.old (S.content store.now) log)) }
+        ensures acts { OnOk result (ActsOn (replays back group.now) cursor.old cursor.new) }
+        ensures scalars { OnOk result (AreScalars (replays back group.now)) }
     {
         let count = group.len();
         let mut end = None;
@@ -197,69 +206,83 @@ impl Outline {
     }
 }
 
-/// The edit that makes a group once more, or, back, reverts it, and puts the mark of a number where that ends.
+/// Returns the edit that makes a group once more, or, back, reverts it, and puts the mark of a number where that ends,
+/// with its delta if the caller follows.
 fn outline_group<S: TextStore>(
-    alloc: Global,
+    rules: &EditRules<'_>,
     text: &EditedText<S>,
     group: &Group<'_>,
     back: bool,
     mark: MarkNo,
-    limit: usize,
-) -> Result<Outline, AllocError>
+) -> Result<(Outline, Option<Delta>), AllocError>
     requires stand { All (AnchorsStand (length (S.content text.now.store).cells)) text.now.anchors.items }
-    requires fits { IsSome (repeated_group limit (replays back group.now)
+    requires fits { IsSome (repeated_group rules.now.limits.now.chars (replays back group.now)
         (characters (S.content text.now.store).cells)) }
-    ensures fits { IfOk result (λ outline. Fits outline.steps (S.content text.now.store)) }
-    ensures makes { IfOk result (λ outline. (log : Log) → drawn_up outline (S.content text.now.store) log
+    ensures fits { IfOk result (λ made. Fits made.0.steps (S.content text.now.store)) }
+    ensures makes { IfOk result (λ made. (log : Log) → drawn_up made.0 (S.content text.now.store) log
         ≡ replayed_group mark.0 (Some (replays back group.now))
         (state_of (S.content text.now.store) text.now.anchors.items log)) }
+    ensures bounds { AreLimits rules.now.limits.now }
+    ensures scalars { OnOk result (AreScalars (replays back group.now)) }
+    ensures delta { IfOk result (λ made. KnowsDelta rules.now.follows (replays back group.now)
+        (S.content text.now.store).cells (after made.0.steps (S.content text.now.store)).cells made.1) }
 {
+    let alloc = rules.alloc;
+    let limit = rules.limits.chars();
     let room = group.len().saturating_add(1);
     let mut outline = Outline::new(alloc, text, room)?;
     let store = &text.store;
     let mut cursor = Cursor::new(alloc, store.len(), room.saturating_mul(2))?;
     let end = outline.replay_all(store, &mut cursor, group, back, limit)?;
     outline.put_end(store, mark, end)?;
-    Ok(outline)
+    let delta = delta_of(alloc, cursor, rules.follows)?;
+    Ok((outline, delta))
 }
 
 /// The same, if there is a group; else an edit that does nothing.
 fn outline_reversal<S: TextStore>(
-    alloc: Global,
+    rules: &EditRules<'_>,
     text: &EditedText<S>,
     group: Option<Group<'_>>,
     back: bool,
     mark: MarkNo,
-    limit: usize,
-) -> Result<Outline, AllocError>
+) -> Result<(Outline, Option<Delta>), AllocError>
     requires stand { All (AnchorsStand (length (S.content text.now.store).cells)) text.now.anchors.items }
-    requires fits { IfSome group (λ group.
-        IsSome (repeated_group limit (replays back group) (characters (S.content text.now.store).cells))) }
-    ensures fits { IfOk result (λ outline. Fits outline.steps (S.content text.now.store)) }
-    ensures makes { IfOk result (λ outline. (log : Log) → drawn_up outline (S.content text.now.store) log
+    requires fits { IfSome group (λ group. IsSome (repeated_group rules.now.limits.now.chars (replays back group)
+        (characters (S.content text.now.store).cells))) }
+    ensures fits { IfOk result (λ made. Fits made.0.steps (S.content text.now.store)) }
+    ensures makes { IfOk result (λ made. (log : Log) → drawn_up made.0 (S.content text.now.store) log
         ≡ replayed_group mark.0 (option_map (replays back) group.entry)
         (state_of (S.content text.now.store) text.now.anchors.items log)) }
+    ensures bounds { OnOk result (IsSome group.entry → AreLimits rules.now.limits.now) }
+    ensures scalars { OnOk result (IfSome group.entry (λ group. AreScalars (replays back group))) }
+    ensures delta { IfSome group.entry (λ group. IfOk result (λ made.
+        KnowsDelta rules.now.follows (replays back group) (S.content text.now.store).cells
+        (after made.0.steps (S.content text.now.store)).cells made.1)) }
 {
     match group {
-        None => Outline::new(alloc, text, 0),
-        Some(group) => outline_group(alloc, text, &group, back, mark, limit),
+        None => Ok((Outline::new(rules.alloc, text, 0)?, None)),
+        Some(group) => outline_group(rules, text, &group, back, mark),
     }
 }
 
-/// A plan of an edit, with what it does to the history.
+/// Returns the plan of an edit with its delta and with what it does to the history.
 fn plan_reversal<S: TextStore>(
     text: &mut EditedText<S>,
     outline: Outline,
+    delta: Option<Delta>,
     notes: Notes,
-) -> Result<Plan<S>, EditFault>
+) -> Result<Plan<S>, AllocError>
     requires { Fits outline.steps (S.content text.old.store) }
     ensures same { IsUnchanged S.content text.old text.new }
-    ensures refused { IfErr result (λ fault. fault ≡ EditFault.Memory) }
     ensures ready { IfOk result (λ plan. S.ready text.new.store plan.prepared) }
     ensures notes { IfOk result (λ plan. option_map (λ effects. effects.notes) plan.effects ≡ Some notes) }
     ensures outcome { IfOk result (λ plan. (log : Log) →
         state_of (S.outcome text.new.store plan.prepared) (anchors_left plan.effects text.old.anchors.items) log
         ≡ drawn_up outline (S.content text.old.store) log) }
+    ensures content { IfOk result (λ plan.
+        S.outcome text.new.store plan.prepared ≡ after outline.steps (S.content text.old.store)) }
+    ensures delta { IfOk result (λ plan. plan.delta ≡ delta) }
 {
     let Outline {
         alloc,
@@ -268,59 +291,69 @@ fn plan_reversal<S: TextStore>(
         ..
     } = outline;
     let steps = put_in_order(alloc, steps)?;
-    Ok(prepare_steps(text, steps, Some(Effects { anchors, notes }))?)
+    prepare_steps(text, steps, Some(Effects { anchors, notes }), delta)
 }
 
 /// A plan that reverts the actions of the last group, the last first; nothing, where there is no group. A text that was
 /// put in is taken out, and one that was taken out comes back with the slots that the characters on both sides share.
 /// The mark of a number, if there is one, then stands where the last of that ends. The group counts as undone, and
 /// nothing is noted (text(n), "edit undo"). It isn't refused for its length, since the history fits the text within the
-/// limit.
+/// limit. The plan of no group has no delta.
 pub fn plan_undo<S: TextStore>(
-    alloc: Global,
-    limits: &Limits,
+    rules: &EditRules<'_>,
     text: &mut EditedText<S>,
     mark: MarkNo,
-) -> Result<Plan<S>, EditFault>
+) -> Result<Plan<S>, AllocError>
     requires stand { All (AnchorsStand (length (S.content text.old.store).cells)) text.old.anchors.items }
-    requires fits { FitsText limits.now.chars (characters (S.content text.old.store).cells) text.old.history.history }
+    requires fits { FitsText rules.now.limits.now.chars (characters (S.content text.old.store).cells)
+        text.old.history.history }
     ensures same { IsUnchanged S.content text.old text.new }
-    ensures refused { IfErr result (λ fault. fault ≡ EditFault.Memory) }
+    ensures bounds { OnOk result (IsSome (next_undo text.old.history.history) → AreLimits rules.now.limits.now) }
+    ensures scalars { OnOk result
+        (IfSome (next_undo text.old.history.history) (λ group. AreScalars (replays true group))) }
     ensures ready { IfOk result (λ plan. S.ready text.new.store plan.prepared) }
     ensures room { IfOk result (λ plan. HasRoomFor plan.effects text.new.history) }
     ensures widgets { IfOk result (λ plan. KeepsWidgets plan.effects text.old.anchors.items) }
     ensures outcome { IfOk result (λ plan.
         planned plan.effects (S.outcome text.new.store plan.prepared) text.old.anchors.items (log_of text.old.history)
         ≡ undone mark.0 (state_in S.content text.old)) }
+    ensures delta { IfSome (next_undo text.old.history.history) (λ group. IfOk result (λ plan.
+        KnowsDelta rules.now.follows (replays true group) (S.content text.old.store).cells
+        (S.outcome text.new.store plan.prepared).cells plan.delta)) }
 {
     let group = text.history.last_undo();
-    let outline = outline_reversal(alloc, text, group, true, mark, limits.chars())?;
-    let plan = plan_reversal(text, outline, Notes::Undone)?;
+    let (outline, delta) = outline_reversal(rules, text, group, true, mark)?;
+    let plan = plan_reversal(text, outline, delta, Notes::Undone)?;
     Ok(plan)
 }
 
 /// A plan that makes the actions of the group that was undone last once more, the first first; nothing, where there is
 /// no such group. Texts come back and are taken out as by `plan_undo`, and the mark of a number stands where the last
-/// of that ends. The group no longer counts as undone (text(n), "edit redo").
+/// of that ends. The group no longer counts as undone (text(n), "edit redo"). The plan of no group has no delta.
 pub fn plan_redo<S: TextStore>(
-    alloc: Global,
-    limits: &Limits,
+    rules: &EditRules<'_>,
     text: &mut EditedText<S>,
     mark: MarkNo,
-) -> Result<Plan<S>, EditFault>
+) -> Result<Plan<S>, AllocError>
     requires stand { All (AnchorsStand (length (S.content text.old.store).cells)) text.old.anchors.items }
-    requires fits { FitsText limits.now.chars (characters (S.content text.old.store).cells) text.old.history.history }
+    requires fits { FitsText rules.now.limits.now.chars (characters (S.content text.old.store).cells)
+        text.old.history.history }
     ensures same { IsUnchanged S.content text.old text.new }
-    ensures refused { IfErr result (λ fault. fault ≡ EditFault.Memory) }
+    ensures bounds { OnOk result (IsSome (next_redo text.old.history.history) → AreLimits rules.now.limits.now) }
+    ensures scalars { OnOk result
+        (IfSome (next_redo text.old.history.history) (λ group. AreScalars (replays false group))) }
     ensures ready { IfOk result (λ plan. S.ready text.new.store plan.prepared) }
     ensures room { IfOk result (λ plan. HasRoomFor plan.effects text.new.history) }
     ensures widgets { IfOk result (λ plan. KeepsWidgets plan.effects text.old.anchors.items) }
     ensures outcome { IfOk result (λ plan.
         planned plan.effects (S.outcome text.new.store plan.prepared) text.old.anchors.items (log_of text.old.history)
         ≡ redone mark.0 (state_in S.content text.old)) }
+    ensures delta { IfSome (next_redo text.old.history.history) (λ group. IfOk result (λ plan.
+        KnowsDelta rules.now.follows (replays false group) (S.content text.old.store).cells
+        (S.outcome text.new.store plan.prepared).cells plan.delta)) }
 {
     let group = text.history.last_redo();
-    let outline = outline_reversal(alloc, text, group, false, mark, limits.chars())?;
-    let plan = plan_reversal(text, outline, Notes::Redone)?;
+    let (outline, delta) = outline_reversal(rules, text, group, false, mark)?;
+    let plan = plan_reversal(text, outline, delta, Notes::Redone)?;
     Ok(plan)
 }

@@ -85,7 +85,7 @@ pub fn plan_tag<S: TextStore>(
         (log_of text.old.history)) }
 {
     let steps = tag_steps(alloc, spans, slot, is_on, text.store.len())?;
-    Ok(prepare_steps(text, steps, None)?)
+    Ok(prepare_steps(text, steps, None, None)?)
 }
 
 /// The steps that take slots off all characters.
@@ -120,5 +120,5 @@ pub fn plan_clear<S: TextStore>(
         text.old.anchors.items (log_of text.old.history)) }
 {
     let steps = clear_steps(alloc, slots)?;
-    Ok(prepare_steps(text, steps, None)?)
+    Ok(prepare_steps(text, steps, None, None)?)
 }

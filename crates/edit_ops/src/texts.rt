@@ -13,13 +13,14 @@ pub struct EditedText<S: TextStore> {
     pub anchors: Vec<Anchors>,
 }
 
-/// By what an edit is made: where its memory comes from, how many characters a text may have, and what is kept to be
-/// undone.
+/// By what an edit is made: where its memory comes from, how many characters a text may have, what is kept to be
+/// undone, and whether its caller follows the text, so that the plan knows its delta.
 #[derive(Clone, Copy)]
 pub struct EditRules<'a> {
     pub alloc: Global,
     pub limits: &'a Limits,
     pub recording: Recording,
+    pub follows: bool,
 }
 
 /// What a replacement takes out: the characters from one offset to another, both cut to `last`, the last character that

@@ -1,4 +1,5 @@
-use Rattle.command_effects.proofs.Common.{subst, ap, ◌∙◌, IsScalar, All, All-more, chars-scalars, Pair}
+use Rattle.command_effects.proofs.Common.{subst, ap, ◌∙◌, IsScalar, All, All-more, Pair}
+use Rattle.text_model.proofs.TextLaws.{chars-scalars}
 use Rattle.command_effects.proofs.excess.read_texts.Goals as goal
 
 pub loop-pair-preserved : goal.loop-pair-preserved

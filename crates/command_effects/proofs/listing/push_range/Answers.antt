@@ -1,4 +1,5 @@
-use Rattle.command_effects.proofs.Common.{[], ◌∷◌, string_bytes, shown, goes_on, on_ok_weaker, position_text}
+use Rattle.command_effects.proofs.Common.{[], ◌∷◌, string_bytes, shown, goes_on, position_text}
+use Rattle.std.proofs.lemmas.Result.{on_ok_weaker}
 use Rattle.command_effects.proofs.listing.push_range.Goals as goal
 
 pub returns : goal.returns

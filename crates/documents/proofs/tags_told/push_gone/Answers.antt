@@ -1,4 +1,5 @@
-use Rattle.documents.proofs.Common.{◌≡◌, None, Some, false, sym, subst, ◌∙◌, chars, on_ok_weaker, flags, TellsSpan}
+use Rattle.documents.proofs.Common.{◌≡◌, None, Some, false, sym, subst, ◌∙◌, chars, flags, TellsSpan}
+use Rattle.std.proofs.lemmas.Result.{on_ok_weaker}
 use Rattle.documents.proofs.GoneLaws.{found-as, gone-more, gone-seen, gone-selection, gone-unknown}
 use Rattle.documents.proofs.tags_told.push_gone.Goals.{then-slot-eq0-via-then-slot-eq0}
 use Rattle.documents.proofs.tags_told.push_gone.Goals.{then-slot-eq0-via-else-slot-eq0+then-has}

@@ -1,5 +1,6 @@
-use Rattle.edit_ops.proofs.Common.{◌≡◌, true, arith, ap, sym, ◌∙◌, needs_shared}
+use Rattle.edit_ops.proofs.Common.{◌≡◌, true, arith, ap, sym, ◌∙◌, needs_shared, Outline}
 use Rattle.edit_ops.proofs.InsertLaws.{put-in, around-is, behind-is}
+use Rattle.edit_ops.proofs.InsertedLaws.{put-at-first}
 use Rattle.std.specs.FinSet as set
 use Rattle.edit_ops.proofs.insertions.outline_insert.Goals as goal
 
@@ -21,3 +22,9 @@ returns-clause-makes g c =
           ∙ ap (λ s. set.intersection s behind) (sym (c.slots_beside-before.ensures.before (on some)));
     })
     c.in_ok-insert_pieces.ensures.makes
+
+pub returns-clause-put : goal.returns-clause-put
+returns-clause-put g c =
+    let content = g.S.TextStore.content c.args.text.now.store in
+    put-at-first content (ap (λ (d : Outline). d.steps) c.in_ok-outline.ensures) c.requires.within
+    (omega (arith, c.requires.within, c.requires.fits)) c.in_ok-insert_pieces.ensures.steps

@@ -1,5 +1,8 @@
-use Rattle.edit_ops.proofs.Common.{◌+◌, ◌<◌, ◌^◌, refl, subst, sym, ◌∙◌, ltb-false, ltb-true, total, log_of}
+use Rattle.edit_ops.proofs.Common.{◌+◌, ◌<◌, ◌^◌, refl, subst, sym, ◌∙◌, ltb-false, ltb-true, total, log_of, ◌≤◌, []}
+use Rattle.edit_ops.proofs.Common.{◌∷◌, length, arith, insertion, pieces_text}
 use Rattle.undo_stack.specs.declared.actions.EditKind.TheVariants.{Insert}
+use Rattle.edit_ops.proofs.HunkLaws.{inserting-of}
+use Rattle.edit_ops.proofs.InsertedLaws.{known-left}
 use Rattle.edit_ops.proofs.ReplaceLaws.{no-longer}
 use Rattle.edit_ops.proofs.insertions.plan_insert.Goals as goal
 
@@ -35,3 +38,14 @@ pub returns-clause-outcome : goal.returns-clause-outcome
 returns-clause-outcome g c =
     c.in_ok-prepare.ensures.outcome
     ∙ (c.in_ok-outline.ensures.makes c.args.rules.now.recording Insert (log_of c.args.text.now.history) (λ on. on)).1
+
+pub delta_of_texts-requires : goal.delta_of_texts-requires
+delta_of_texts-requires g c = c.in_ok-outline.ensures.put.short
+
+pub returns-clause-delta : goal.returns-clause-delta
+returns-clause-delta g c =
+    let cells = (g.S.TextStore.content c.args.text.now.store).cells in
+    let within : c.args.at ≤ length cells = let h = c.requires.within in omega (arith, h) in
+    known-left c.args.rules.now.follows (insertion c.args.at (pieces_text c.args.pieces.items) ∷ []) (omega arith) within
+    (inserting-of (length cells) c.args.at (pieces_text c.args.pieces.items) within) c.in_ok-outline.ensures.put
+    c.in_ok-delta.ensures c.in_ok-prepare.ensures.delta c.in_ok-prepare.ensures.content

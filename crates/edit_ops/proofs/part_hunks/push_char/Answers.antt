@@ -1,5 +1,4 @@
-use Rattle.edit_ops.proofs.Common.{ap, ◌∙◌, chars, IsUtf8-string_bytes}
-use Rattle.text_model.proofs.TextLaws.{chars-push}
+use Rattle.edit_ops.proofs.Common.{ap, ◌∙◌, chars, IsUtf8-string_bytes, chars-push}
 use Rattle.edit_ops.proofs.part_hunks.push_char.Goals as goal
 
 pub returns : goal.returns

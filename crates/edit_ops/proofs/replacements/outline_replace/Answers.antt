@@ -1,6 +1,7 @@
 use Rattle.edit_ops.proofs.Common.{◌≡◌, ◌-◌, true, false, sym, ap, subst, ◌∙◌, arith, option_and_then, Fits, no_history}
 use Rattle.edit_ops.proofs.Common.{unmodified, Replace, needs_shared, total, clipped, Outline, state_of, after}
 use Rattle.edit_ops.proofs.Common.{IsBetween}
+use Rattle.edit_ops.proofs.InsertedLaws.{put-marked, put-unmarked}
 use Rattle.edit_ops.proofs.ReplaceLaws.{between-removed, found-within, mark-fits, mark-put, mark-none, replaced-is}
 use Rattle.edit_ops.proofs.replacements.outline_replace.Goals.{in-Some+in_ok-put_mark-in-Some, in-None, Joined-clipped}
 use Rattle.std.specs.FinMap as finite
@@ -62,4 +63,16 @@ returns-clause-makes g c = λ recording log keeping.
           w.in-Some.is (w.outline-is ∙ w.in_ok-put_mark-in-Some.ensures))
       | in-None w ↦ finish (mark-none recording c.insert_pieces.new.self c.match-clipped.outline state c.args.mark
           c.clipped.result w.in-None.is w.outline-is)
+    ]
+
+pub returns-clause-put : goal.returns-clause-put
+returns-clause-put g c =
+    let content = g.S.TextStore.content c.args.text.now.store in
+    let removal = c.in_ok-outline.ensures in
+    elim c.match-clipped.branch [
+      | in-Some+in_ok-put_mark-in-Some w ↦ put-marked content c.args.mark w.in-Some.place removal.steps removal.cells
+          c.requires.ordered c.requires.within c.requires.room c.in_ok-end.ensures.steps
+          (w.outline-is ∙ w.in_ok-put_mark-in-Some.ensures)
+      | in-None w ↦ put-unmarked content removal.steps removal.cells c.requires.ordered c.requires.within
+          c.requires.room c.in_ok-end.ensures.steps w.outline-is
     ]

@@ -1,5 +1,8 @@
 use Rattle.edit_ops.proofs.Common.{◌≡◌, ◌+◌, ◌-◌, ◌<◌, ◌^◌, length, ap, ap₂, refl, subst, sym, ◌∙◌, ltb-false, ltb-true}
-use Rattle.edit_ops.proofs.Common.{total, replaced_span, log_of, state_of, min}
+use Rattle.edit_ops.proofs.Common.{total, replaced_span, log_of, state_of, min, ◌≤◌, arith, characters}
+use Rattle.edit_ops.proofs.Common.{length-characters, replacing, AreHunksOf, KnowsDelta, replacement, pieces_text}
+use Rattle.edit_ops.proofs.HunkLaws.{replacing-of}
+use Rattle.edit_ops.proofs.InsertedLaws.{known-left}
 use Rattle.edit_ops.proofs.ReplaceLaws.{no-longer}
 use Rattle.edit_ops.proofs.replacements.plan_replace.Goals as goal
 
@@ -43,3 +46,24 @@ returns-clause-outcome g c =
     c.in_ok-prepare.ensures.outcome ∙ c.in_ok-outline.ensures.makes c.args.rules.now.recording log (λ on. on)
     ∙ ap₂ (λ from to. replaced_span c.args.rules.now.recording c.args.target.mark.0 from to c.args.pieces.items state)
     c.min-from.ensures c.min-to.ensures
+
+pub delta_of_texts-requires : goal.delta_of_texts-requires
+delta_of_texts-requires g c = c.in_ok-outline.ensures.put.short
+
+pub returns-clause-delta : goal.returns-clause-delta
+returns-clause-delta g c =
+    let follows = c.args.rules.now.follows in
+    let cells = (g.S.TextStore.content c.args.text.now.store).cells in
+    let outcome = (g.S.TextStore.outcome c.prepare.new.text.store c.in_ok-prepare.field-0.prepared).cells in
+    let delta = c.in_ok-prepare.field-0.delta in
+    let text = pieces_text c.args.pieces.items in
+    let from = c.min-from.result in
+    let to = c.min-to.result in
+    let ordered : from ≤ to = omega (arith, c.min-from.ensures, c.min-to.ensures, c.if-target.false) in
+    let within : to ≤ length cells = omega (arith, c.min-to.ensures, c.requires.within) in
+    subst (λ actions. KnowsDelta follows actions cells outcome delta)
+    (ap₂ (λ a b. replacement cells a b text) c.min-from.ensures c.min-to.ensures)
+    (known-left follows (replacement cells from to text) ordered within
+    (subst (λ n. AreHunksOf (replacement cells from to text) n (replacing from to text)) (length-characters cells)
+    (replacing-of (characters cells) from to text ordered (omega (arith, within, length-characters cells))))
+    c.in_ok-outline.ensures.put c.in_ok-delta.ensures c.in_ok-prepare.ensures.delta c.in_ok-prepare.ensures.content)

@@ -4,9 +4,9 @@ use Rattle.edit_ops.proofs.reversals.plan_redo.Goals as goal
 
 pub outline_reversal-requires-clause-fits : goal.outline_reversal-requires-clause-fits
 outline_reversal-requires-clause-fits g c =
-    rw c.chars.ensures.value (redo-fits-replay c.args.limits.now.chars c.args.text.now.history.history
+    redo-fits-replay c.args.rules.now.limits.now.chars c.args.text.now.history.history
     (characters (g.S.TextStore.content c.args.text.now.store).cells) c.last_redo-group.result c.requires.fits
-    c.last_redo-group.ensures)
+    c.last_redo-group.ensures
 
 pub returns-clause-widgets : goal.returns-clause-widgets
 returns-clause-widgets g c =

@@ -4,9 +4,9 @@ use Rattle.edit_ops.proofs.reversals.plan_undo.Goals as goal
 
 pub outline_reversal-requires-clause-fits : goal.outline_reversal-requires-clause-fits
 outline_reversal-requires-clause-fits g c =
-    rw c.chars.ensures.value (undo-fits-replay c.args.limits.now.chars c.args.text.now.history.history
+    undo-fits-replay c.args.rules.now.limits.now.chars c.args.text.now.history.history
     (characters (g.S.TextStore.content c.args.text.now.store).cells) c.last_undo-group.result c.requires.fits
-    c.last_undo-group.ensures)
+    c.last_undo-group.ensures
 
 pub returns-clause-widgets : goal.returns-clause-widgets
 returns-clause-widgets g c =

@@ -1,66 +1,94 @@
-use Rattle.documents.proofs.Common.{◌≡◌, Some, Empty, Ok, ap, sym, subst, ◌∙◌, IsScalar, IfSome, All, next_redo, Action}
-use Rattle.documents.proofs.Common.{log_of, state_of, Document, characters, widget_at, parts_of, edit_redo}
-use Rattle.documents.proofs.Common.{redo-fits-replay}
+use Rattle.documents.proofs.Common.{◌≡◌, ◌*◌, Some, Empty, Ok, ap, sym, subst, ◌∙◌, next_redo, Action, false, List}
+use Rattle.documents.proofs.Common.{log_of, state_of, widget_at, parts_of, edit_redo, replays, IfSome, length, AreHunks}
+use Rattle.documents.proofs.Common.{Content, is_some, Document, not, State, some_is, KnowsDelta, AreScalars}
+use Rattle.edit_ops.specs.Reversals.{redone}
 use Rattle.documents.proofs.ChangeLaws.{Leaves}
-use Rattle.documents.proofs.PartsLaws.{sits, stand}
-use Rattle.documents.proofs.ReversalLaws.{leaves-redone}
-use Rattle.documents.proofs.StateLaws.{anchors-stand, with_state}
-use Rattle.documents.proofs.ToldLaws.{redo-some, told-made}
+use Rattle.documents.proofs.DeltaLaws.{known-stand, planned-made, told-planned}
+use Rattle.documents.proofs.PartsLaws.{pairs_of, sits, stand}
+use Rattle.documents.proofs.ReversalLaws.{CanRevert, leaves-redone, redone-edits}
+use Rattle.documents.proofs.StateLaws.{anchors-stand, state_in, with_state}
 use Rattle.documents.proofs.WellFormedLaws.{fits-kept}
 use Rattle.documents.proofs.documents.Document.edit_redo.Given.{Over}
-use Rattle.documents.proofs.documents.Document.edit_redo.Goals.{In_ok-redo_group}
+use Rattle.documents.proofs.documents.Document.edit_redo.Goals.{In_ok-plan, In_ok-told}
 use Rattle.documents.proofs.documents.Document.edit_redo.Goals as goal
 
-pub told_reversal-requires : goal.told_reversal-requires
-told_reversal-requires g c =
-    let document = c.args.self.now in
-    let kept : Some c.in-Some.group ≡ next_redo document.history = sym c.in-Some.is ∙ c.last_redo.ensures
-    ∙ ap (λ (d : Document). next_redo d.history) c.self.view_is in
-    record {
-      fits = redo-fits-replay c.args.caller.now.limits.now.chars document.history (characters document.cells)
-          (Some c.in-Some.group) c.requires.formed.history kept;
-    }
+pub plan_redo-requires-clause-stand : goal.plan_redo-requires-clause-stand
+plan_redo-requires-clause-stand g c = anchors-stand (stand c.self.invariant c.self.view_is)
 
-pub redo_group-requires-clause-stand : goal.redo_group-requires-clause-stand
-redo_group-requires-clause-stand g c = anchors-stand (stand c.self.invariant c.self.view_is)
-
-pub redo_group-requires-clause-fits : goal.redo_group-requires-clause-fits
-redo_group-requires-clause-fits g c =
+pub plan_redo-requires-clause-fits : goal.plan_redo-requires-clause-fits
+plan_redo-requires-clause-fits g c =
     fits-kept c.args.caller.now.limits.now (parts_of g.S.TextStore.content c.self.inside) c.args.self.now
     c.self.view_is c.requires.formed
 
--- what is left where the group was redone
-left : (g : Over) (c : In_ok-redo_group g)
-    → Leaves c.args.caller.now.limits.now (with_state (parts_of g.S.TextStore.content c.self.inside) (state_of
-    (g.S.TextStore.content c.redo_group.new.text.store) c.redo_group.new.text.anchors.items
-    (log_of c.redo_group.new.text.history))) c.args.self.now (Ok Empty)
-    (edit_redo c.args.self.now (widget_at c.args.self.now c.args.caller.now.seat))
-left g c =
-    let old = c.self.inside in let stands = stand c.self.invariant c.self.view_is in
-    let is : next_redo old.text.history.history ≡ Some c.in-Some.group = sym c.last_redo.ensures ∙ c.in-Some.is in
-    leaves-redone (record {
+can : (g : Over) (c : In_ok-plan g)
+    → CanRevert (parts_of g.S.TextStore.content c.self.inside) c.args.self.now c.args.caller.now.seat c.number.result
+can g c =
+    let stands = stand c.self.invariant c.self.view_is in
+    record {
       stands = stands;
       sits = sits c.args.caller.now.seat stands c.number.ensures.value;
       on = c.if-not-self.false;
       active = sym c.is_idle.ensures ∙ c.if-is_idle.false;
-    }) is (record {
-      bounds = c.redo_group.ensures.bounds;
-      scalars = subst (λ found. IfSome found (All (λ (action : Action). All IsScalar action.text))) is
-          c.redo_group.ensures.scalars;
-    }) c.requires.formed c.in_ok-redo_group.ensures.ok
+    }
+
+-- the group
+found : (g : Over) (c : In_ok-plan g)
+    → (group : List Action) × (next_redo c.self.inside.text.history.history ≡ Some group)
+found g c =
+    let there = some_is c.last_redo.result (c.is_none.ensures ∙ ap not c.if-is_none.false) in
+    (there.0, sym c.last_redo.ensures ∙ there.1)
+
+-- what the plan knows
+knows : (g : Over) (c : In_ok-plan g) → KnowsDelta c.args.caller.now.follows (replays false (found g c).0)
+    (g.S.TextStore.content c.self.inside.text.store).cells
+    (g.S.TextStore.outcome c.plan_redo.new.text.store c.in_ok-plan.plan.prepared).cells c.in_ok-plan.plan.delta
+knows g c =
+    subst (λ found. IfSome found (λ group. KnowsDelta c.args.caller.now.follows (replays false group)
+    (g.S.TextStore.content c.self.inside.text.store).cells
+    (g.S.TextStore.outcome c.plan_redo.new.text.store c.in_ok-plan.plan.prepared).cells c.in_ok-plan.plan.delta))
+    (found g c).1 c.in_ok-plan.ensures.delta
+
+-- what is left where the group is redone
+left : (g : Over) (c : In_ok-plan g) {state : State}
+    → state ≡ redone (2 * c.number.result) (state_in (parts_of g.S.TextStore.content c.self.inside))
+    → Leaves c.args.caller.now.limits.now (with_state (parts_of g.S.TextStore.content c.self.inside) state)
+    c.args.self.now (Ok Empty) (edit_redo c.args.self.now (widget_at c.args.self.now c.args.caller.now.seat))
+left g c state_is =
+    let is = (found g c).1 in
+    leaves-redone (can g c) is (record {
+      bounds = c.in_ok-plan.ensures.bounds (ap is_some is);
+      scalars = subst (λ found. IfSome found (λ group. AreScalars (replays false group))) is c.in_ok-plan.ensures.scalars;
+    }) c.requires.formed state_is
+
+pub carry_out-requires-clause-stand : goal.carry_out-requires-clause-stand
+carry_out-requires-clause-stand g c =
+    let at = (goal.at.carry_out-requires-clause-stand g c).In_ok-plan in
+    subst (λ (content : Content). IfSome c.in_ok-plan.plan.delta (λ delta.
+    AreHunks 0 (length content.cells) delta.hunks.items)) (sym c.in_ok-plan.ensures.same.0)
+    (known-stand c.args.caller.now.follows (replays false (found g at).0)
+    (g.S.TextStore.content c.self.inside.text.store).cells
+    (g.S.TextStore.outcome c.plan_redo.new.text.store c.in_ok-plan.plan.prepared).cells c.in_ok-plan.plan.delta
+    (knows g at))
+
+-- what the plan makes of the text
+made : (g : Over) (c : In_ok-told g)
+    → state_of (g.S.TextStore.content c.carry_out.new.text.store) c.carry_out.new.text.anchors.items
+    (log_of c.carry_out.new.text.history)
+    ≡ redone (2 * c.number.result) (state_in (parts_of g.S.TextStore.content c.self.inside))
+made g c =
+    let same = c.in_ok-plan.ensures.same in
+    planned-made c.in_ok-plan.plan.effects c.in_ok-told.ensures.ok same.2 same.1 c.in_ok-plan.ensures.outcome
 
 pub invariant_of-self-2 : goal.invariant_of-self-2
-invariant_of-self-2 g c = (left g (goal.at.invariant_of-self-2 g c).In_ok-redo_group).sound
+invariant_of-self-2 g c = (left g (goal.at.invariant_of-self-2 g c).In_ok-plan (made g c)).sound
 
 pub returns-clause-does : goal.returns-clause-does
-returns-clause-does g c = (left g (goal.at.returns-clause-does g c).In_ok-redo_group).does
+returns-clause-does g c = (left g (goal.at.returns-clause-does g c).In_ok-plan (made g c)).does
 
 pub returns-clause-told : goal.returns-clause-told
 returns-clause-told g c = λ follows.
-    let document = c.args.self.now in
-    let kept : next_redo document.history ≡ c.last_redo.result =
-    ap (λ (d : Document). next_redo d.history) (sym c.self.view_is) ∙ sym c.last_redo.ensures in
-    told-made (left g (goal.at.returns-clause-told g c).In_ok-redo_group).does
-    (redo-some document (widget_at document c.args.caller.now.seat) c.in-Some.group c.in_ok-told.told
-    (ap (λ (d : Document). d.undo) (sym c.self.view_is) ∙ c.if-not-self.false) (kept ∙ c.in-Some.is)
-    (sym c.is_idle.ensures ∙ c.if-is_idle.false) (c.in_ok-told.ensures follows))
+    let at = (goal.at.returns-clause-told g c).In_ok-plan in
+    told-planned (pairs_of (parts_of g.S.TextStore.content c.self.inside)) c.in_ok-plan.plan.delta
+    c.in_ok-told.ensures.told (ap (λ (content : Content). content.cells) c.in_ok-plan.ensures.same.0)
+    (ap (λ (state : State). state.content.cells) c.in_ok-told.ensures.ok) follows
+    (redone-edits (can g at) (found g at).1) (knows g at) (ap (λ (d : Document). d.cells) c.self.view_is)

@@ -1,5 +1,6 @@
 use Rattle.edit_ops.proofs.Common.{◌≡◌, [], ap, sym, ◌∙◌, arith, nil_from_length, inserted_texts, total, outlineed}
 use Rattle.edit_ops.proofs.InsertLaws.{inserting-first, inserting-more, inserting-none, piece-fits}
+use Rattle.edit_ops.proofs.RowLaws.{row-last}
 use Rattle.std.specs.FinSet as set
 use Rattle.edit_ops.proofs.outlines.Outline.insert_pieces.Goals as goal
 
@@ -50,3 +51,9 @@ returns-clause-makes c = λ recording kind state keeping fits is.
       sym (ap (λ ps. inserted_texts recording kind c.loop-piece.at ps (outlineed recording kind c.loop-piece.self state))
           none) ∙ done.makes,
     )
+
+pub returns-clause-steps : goal.returns-clause-steps
+returns-clause-steps c =
+    let rest = c.loop-piece.piece-iterator.rest.items in
+    row-last c.loop-piece.invariant.row
+    (nil_from_length rest (omega (arith, c.in-None.ensures.steps.0, c.loop-piece.piece-iterator.rest.ok.0)))

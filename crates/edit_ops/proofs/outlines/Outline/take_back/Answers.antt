@@ -1,4 +1,5 @@
-use Rattle.edit_ops.proofs.Common.{taken_back}
+use Rattle.edit_ops.proofs.Common.{arith, taken_back}
+use Rattle.edit_ops.proofs.CursorTextLaws.{take-acts}
 use Rattle.edit_ops.proofs.ReplayLaws.{Replayed, take-replayed}
 use Rattle.edit_ops.proofs.outlines.Outline.take_back.Goals as goal
 
@@ -14,3 +15,8 @@ returns-clause-follows g c = (all g c).follows
 
 pub returns-clause-makes : goal.returns-clause-makes
 returns-clause-makes g c = (all g c).makes
+
+pub returns-clause-acts : goal.returns-clause-acts
+returns-clause-acts g c =
+    take-acts c.in_ok-seek.ensures.moves c.in_ok-seek.ensures.there c.in_ok-remove.ensures.takes
+    c.in_ok-remove.ensures.len c.requires.ordered (omega arith)
