@@ -4,7 +4,7 @@ ghost use Rattle.std.specs.Prelude.{◌≤◌, ℕ, IfOk};
 ghost use Rattle.edit_ops.specs.Told.{AreHunks};
 
 use crate::scenes::store_of;
-use edit_ops::{Hunk, Span, Spot, TextChange, push_replacement, take_spans, tell};
+use edit_ops::{Hunk, Spot, TextChange, push_replacement, tell};
 use std::alloc::{AllocError, Global};
 use std::process::Abort;
 use std::test::Fail;
@@ -120,14 +120,4 @@ pub fn are(hunks: &[Hunk], wanted: &[(usize, usize, &str)]) -> bool {
         }
     }
     true
-}
-
-#[test]
-fn spans_are_hunks(rt: HostRuntime) -> Result<(), Fail> {
-    let mut spans = Vec::new(rt.alloc());
-    spans.push(Span { from: 4, to: 8 })?;
-    spans.push(Span { from: 0, to: 1 })?;
-    let hunks = take_spans(rt.alloc(), spans)?;
-    assert!(rt; are(&hunks, &[(0, 1, ""), (4, 8, "")]));
-    Ok(())
 }

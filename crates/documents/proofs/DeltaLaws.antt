@@ -4,7 +4,7 @@ use Rattle.documents.proofs.Common.{drop, get_or, refl, sym, ap, apâ‚‚, subst, â
 use Rattle.documents.proofs.Common.{length-take-le, map-map, map-append, get_or_from_slice_get, Cell, Named, slot_sets}
 use Rattle.documents.proofs.Common.{Action, AreHunksOf, bare_cells, slotted, Tells, hunk_changes, patched, patched_by}
 use Rattle.documents.proofs.Common.{map-patched, SlotRun, AreSeats, AreTags, Tags, Key, key_pairs, keyed, keys_listed}
-use Rattle.documents.proofs.Common.{run_changes, slot_changes, untagged, KeyedCell, characters, TellsCells, TellsTags}
+use Rattle.documents.proofs.Common.{run_changes, slot_changes, untagged, KeyedCell, TellsCells, TellsTags}
 use Rattle.documents.proofs.Common.{TagChange, EditTold, bare, false, changed, get_or-map, length-map, without_slots}
 use Rattle.documents.proofs.Common.{Bool, AreHunks, IfSome, Anchors, Content, Log, State, slice_get_within, changed-at}
 use Rattle.documents.proofs.Common.{IsDelta, IsLostRun, KnowsDelta, bared, hunks_made, lost_run}

@@ -1,10 +1,10 @@
 -- A document as it is kept: its characters, its widgets, and what of it a change leaves.
 use Rattle.documents.proofs.Common.{◌≡◌, ℕ, zero, suc, ◌+◌, ◌*◌, ◌<◌, true, List, [], ◌∷◌, length, map, refl, sym, ap}
-use Rattle.documents.proofs.Common.{subst, ◌∙◌, option_map, Some, get_or, arith, AllByRecursion, length-map, none-some}
-use Rattle.documents.proofs.Common.{same_Some, get_or_from_slice_get, slice_get-get_or, slice_get-map, Cell}
-use Rattle.documents.proofs.Common.{MOST_WIDGETS, Named, numbers_of, Tag, AreAnchored, Document, Parts, anchors_at}
-use Rattle.documents.proofs.Common.{characters, document_of, no_widget, whole, widget_at, widget_of, HasOwnMarks}
-use Rattle.documents.proofs.Common.{Anchors, IsSeated, IsSound, Stands, Key, key_pairs, keyed, slice_get, is_some}
+use Rattle.documents.proofs.Common.{subst, ◌∙◌, option_map, Some, AllByRecursion, length-map, none-some, same_Some}
+use Rattle.documents.proofs.Common.{get_or_from_slice_get, slice_get-map, Cell, MOST_WIDGETS, Named, numbers_of, Tag}
+use Rattle.documents.proofs.Common.{AreAnchored, Document, Parts, anchors_at, characters, document_of, no_widget, whole}
+use Rattle.documents.proofs.Common.{widget_at, widget_of, HasOwnMarks, Anchors, IsSeated, IsSound, Stands, Key}
+use Rattle.documents.proofs.Common.{key_pairs, keyed, slice_get, is_some}
 use Rattle.documents.proofs.PlacedLaws.{placed-length}
 use Rattle.std.specs.FinMap as finite
 use Rattle.text_model.specs.Content as model
@@ -45,11 +45,6 @@ pub tags-kept : (parts : Parts) (document : Document) → document_of parts ≡ 
     length document.tags ≡ length parts.tags.tags
 tags-kept parts document is =
     ap (λ (d : Document). length d.tags) (sym is) ∙ length-map parts.tags.tags (λ (tag : Tag). tag.name)
-
-pub widgets-kept : (parts : Parts) (document : Document) → document_of parts ≡ document →
-    length document.widgets ≡ length parts.seats.entries
-widgets-kept parts document is = ap (λ (d : Document). length d.widgets) (sym is)
-    ∙ length-map parts.seats.entries (widget_of parts.journal parts.content.marks)
 
 -- ---- one of its widgets
 
@@ -120,18 +115,3 @@ pub anchors-there : {parts : Parts} {document : Document} {slot : ℕ} {held : L
     → slot < length held
 anchors-there {parts} {document} {slot} place stands number same =
     subst (λ anchors. slot < length anchors) (sym same) (sits place stands number).anchors
-
--- a widget that there is
-pub sits-shown : (parts : Parts) (document : Document) (place : ℕ) → Stands parts document →
-    place < length document.widgets → (slot : ℕ) × Sits parts document place slot
-sits-shown parts document place stands within =
-    let numbers = numbers_of parts.seats.entries in
-    let slot = get_or numbers place 0 in (
-      slot,
-      sits place stands (slice_get-get_or numbers place 0 (omega (
-        arith,
-        within,
-        widgets-kept parts document stands.is,
-        length-map parts.seats.entries (λ (seat : Named). seat.number),
-      ))),
-    )

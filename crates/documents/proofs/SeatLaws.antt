@@ -125,13 +125,6 @@ removed-behind : (seats : List Named) (place : ℕ) (seat : Named) → slice_get
     drop place (remove seats place) ≡ drop (place + 1) seats
 removed-behind seats place seat is = removed-next seats place seat is ∙ ap (λ n. drop n seats) (one_more place)
 
-pub removed-shorter : (seats : List Named) (place : ℕ) → place < length seats →
-    length (remove seats place) + 1 ≡ length seats
-removed-shorter [] place inside = absurd (omega (arith, inside))
-removed-shorter (other ∷ seats) zero inside = omega arith
-removed-shorter (other ∷ seats) (suc place) inside =
-    (let rest = removed-shorter seats place (omega (arith, inside)) in omega (arith, rest))
-
 -- the seats before a place, and those left of the others
 abbrev pub left_from : List (List ℕ) → ℕ → List Named → List Named
 left_from names place seats = take place seats ++ seats_left names (drop place seats)

@@ -1,13 +1,11 @@
 -- What is told of a command beforehand is what it makes of the text and of its tags.
-use Rattle.documents.proofs.Common.{◌≡◌, ℕ, ◌-◌, List, [], ◌∷◌, length, refl, sym, ap, ◌∙◌, subst, LimitTable, Action}
+use Rattle.documents.proofs.Common.{◌≡◌, ℕ, List, [], ◌∷◌, length, refl, sym, ap, ◌∙◌, subst, LimitTable, Action}
 use Rattle.documents.proofs.Common.{Tells, hunk_changes, patched, patched_by, map-patched, Empty, AreExact, AreHunksOf}
 use Rattle.documents.proofs.Common.{Document, KeyedCell, characters, Change, TellsTags, after_changes, untagged}
 use Rattle.documents.proofs.Common.{Foretells, TellsCells, EditTold, ◌≢◌, Ok, Err, Memory, Does, is_ok}
 use Rattle.edit_ops.specs.declared.hunks.Hunk.{Hunk}
 use Rattle.edit_ops.proofs.TellLaws.{changes-exact, hunks-made}
 use Rattle.documents.proofs.TagsToldLaws.{told-characters}
-use Rattle.std.specs.FinSet as set
-use Rattle.text_model.specs.Content as model
 
 -- hunks of the text, and changes of tags behind these
 pub hunks-tell : (edits : List Action) (cells new : List KeyedCell) (hunks : List Hunk) (told : EditTold)

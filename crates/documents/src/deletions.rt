@@ -42,9 +42,7 @@ impl<S: TextStore> Document<S> {
             recording: self.settings.recording(),
             follows: caller.follows,
         };
-        let Ok(plan) = plan_delete(&rules, &mut self.text, start, end, &spans) else {
-            return Err(Fault::Memory);
-        };
+        let plan = plan_delete(&rules, &mut self.text, start, end, &spans)?;
         Ok(carry_out(self.alloc, &self.seats, &self.tags, &mut self.text, plan)?)
     }
 

@@ -1,8 +1,7 @@
 -- The steps of an edit that inserts texts, each after the one before it.
-use Rattle.edit_ops.proofs.Common.{◌≡◌, ℕ, ◌+◌, ◌-◌, ◌<◌, List, [], ◌∷◌, ◌++◌, length, sym, ap, ◌∙◌, arith, append-nil}
+use Rattle.edit_ops.proofs.Common.{◌≡◌, ℕ, ◌+◌, ◌<◌, List, [], ◌∷◌, ◌++◌, length, sym, ap, ◌∙◌, arith, append-nil}
 use Rattle.edit_ops.proofs.Common.{append_assoc, length-append, nil_from_length, Slots, Step, Insert, flat_map}
 use Rattle.edit_ops.proofs.Common.{SlottedText, flat_map-append, text_in, text_of, AreInsertions, GoesOn, pieces_text}
-use Rattle.std.specs.FinSet as set
 
 -- what one step more gives
 pub snoc : {A : Type 0} (f : Step → List A) (steps : List Step) (step : Step)

@@ -17,7 +17,7 @@ abbrev pub pending_after : Option Slots → ℕ → ℕ → List ℕ → List �
 pending_after None from to fresh text = []
 pending_after (Some slots) from to fresh text = text ++ slice_range fresh from to
 
--- from a border in an old text of so many characters on, where a text is pending
+-- from a border on, in an old text of `len` characters, where a text is pending
 abbrev pub part_hunks : ℕ → List ℕ → ℕ → List ℕ → List Part → List Hunk
 part_hunks border text len fresh [] = replacing border len text
 part_hunks border text len fresh (part ∷ parts) =

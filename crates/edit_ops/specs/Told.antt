@@ -96,7 +96,7 @@ AreFalling [] = ⊤
 AreFalling (change ∷ []) = ⊤
 AreFalling (change ∷ next ∷ changes) = (next.at + next.removed < change.at) × AreFalling (next ∷ changes)
 
--- Changes are exactly what actions do to a text of so many characters: of every such text they make what the actions
+-- Changes are exactly what actions do to a text of `len` characters: of every such text they make what the actions
 -- make, so that a character which stays is neither deleted nor inserted; and adjacent changes are one.
 pub record AreExact (actions : List Action) (len : ℕ) (changes : List TextChange) : Type 0 where
   pub same : (text : List ℕ) → length text ≡ len
@@ -110,7 +110,7 @@ pub record IsHunk (hunk : Hunk) : Type 0 where
   pub ordered : hunk.from ≤ hunk.to
   pub some : hunk.from ≡ hunk.to → hunk.text ≢ []
 
--- hunks in the order of an old text of so many characters, from an offset of it on
+-- hunks in the order of an old text of `len` characters, from an offset of it on
 abbrev pub AreHunks : ℕ → ℕ → List Hunk → Type 0
 AreHunks at len [] = at ≤ len
 AreHunks at len (hunk ∷ hunks) = (at ≤ hunk.from) × IsHunk hunk × AreHunks hunk.to len hunks
@@ -147,7 +147,7 @@ AreSeparate [] = ⊤
 AreSeparate (hunk ∷ []) = ⊤
 AreSeparate (hunk ∷ next ∷ hunks) = (hunk.to < next.from) × AreSeparate (next ∷ hunks)
 
--- hunks are exactly what actions do to a text of so many characters
+-- hunks are exactly what actions do to a text of `len` characters
 pub record AreHunksOf (actions : List Action) (len : ℕ) (hunks : List Hunk) : Type 0 where
   pub stand : AreHunks 0 len hunks
   pub apart : AreSeparate hunks

@@ -31,7 +31,7 @@ pub use changes::{ChangeList, TextChange, tell};
 pub use deletions::plan_delete;
 pub use deltas::Delta;
 pub use faults::EditFault;
-pub use hunks::{Hunk, push_replacement, take_spans};
+pub use hunks::{Hunk, push_replacement};
 pub use insertions::{count_of, plan_insert};
 pub use plans::{Effects, Notes, Plan, Recording, commit};
 pub use replacements::plan_replace;

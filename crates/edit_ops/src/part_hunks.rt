@@ -79,7 +79,7 @@ impl HunkWriter {
     }
 }
 
-/// Returns the hunks of an old text of so many characters that make a text of these parts of it.
+/// Returns the hunks of an old text of `len` characters that make a text of these parts of it.
 fn hunks_of(alloc: Global, parts: &TextParts, len: usize) -> Result<Vec<Hunk>, AllocError>
     requires rising { Rise 0 len parts.now.parts.items }
     requires fit { All (PartFits len (length parts.now.fresh.items)) parts.now.parts.items }

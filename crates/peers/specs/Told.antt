@@ -15,7 +15,7 @@ use Rattle.peers.specs.Step.{step}
 use Rattle.peers.specs.World.{World, document_at, home}
 use Rattle.peers.specs.declared.told.Told.{Told}
 
--- nothing is told
+-- nothing is reported
 abbrev pub no_edit : EditTold
 no_edit = record { changes = []; tags = [] }
 
@@ -23,7 +23,7 @@ no_edit = record { changes = []; tags = [] }
 abbrev pub cells_at : World → ℕ → List KeyedCell
 cells_at world place = (document_at world.documents place).cells
 
--- what became of the document at a place by edits; nothing is told where there is none
+-- what became of the document at a place by edits; nothing is reported where there is none
 abbrev pub TellsAt : World → World → Option ℕ → List Action → EditTold → Type 0
 TellsAt old new None edits told = told ≡ no_edit
 TellsAt old new (Some place) edits told = TellsCells edits (cells_at old place) (cells_at new place) told

@@ -1,4 +1,4 @@
-use Rattle.edit_ops.proofs.Common.{◌≡◌, ◌+◌, ◌-◌, Bool, true, false, sym, subst, map, deletion, characters, changed}
+use Rattle.edit_ops.proofs.Common.{◌≡◌, ◌+◌, ◌-◌, Bool, sym, subst, map, deletion, characters, changed}
 use Rattle.edit_ops.proofs.Common.{if◌then◌else◌, removed_all, without_slots, Span, sum_by, IsDelta, Delta, ap, ◌∙◌}
 use Rattle.edit_ops.proofs.Common.{Some, option_map, box_value}
 use Rattle.edit_ops.proofs.DeltaLaws.{bared-delta, long, plain-delta}

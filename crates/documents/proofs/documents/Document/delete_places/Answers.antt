@@ -59,8 +59,8 @@ made : (g : Over) (c : After-drop-spans-2 g)
     ≡ deleted (recording_of c.self.inside.settings) c.start_of-start.result c.end_of-end.result c.deref-3.result.now
     (state_in (parts_of g.S.TextStore.content c.self.inside))
 made g c =
-    let same = c.in-Ok.ensures.same in
-    planned-made c.in-Ok.plan.effects c.in_ok-carry_out.ensures.ok same.2 same.1 c.in-Ok.ensures.outcome
+    let same = c.in_ok-plan.ensures.same in
+    planned-made c.in_ok-plan.plan.effects c.in_ok-carry_out.ensures.ok same.2 same.1 c.in_ok-plan.ensures.outcome
     ∙ ap (λ recording. deleted recording c.start_of-start.result c.end_of-end.result c.deref-3.result.now
     (state_in (parts_of g.S.TextStore.content c.self.inside))) c.recording.ensures
 
@@ -98,7 +98,7 @@ returns-clause-told g c = λ follows.
     let same : deletions_in cells c.start_of-start.result c.end_of-end.result c.deref-3.result.now ≡ edits =
     λ i. map (λ (run : Span). deletion (sym text i) run.from run.to)
     (runs_below (sym long i) (delete_set (sym text i) (starts i) (ends i) (in_spans (all i)))) in
-    told-planned pairs c.in-Ok.plan.delta c.in_ok-carry_out.ensures.told
-    (ap (λ (content : Content). content.cells) c.in-Ok.ensures.same.0)
+    told-planned pairs c.in_ok-plan.plan.delta c.in_ok-carry_out.ensures.told
+    (ap (λ (content : Content). content.cells) c.in_ok-plan.ensures.same.0)
     (ap (λ (state : State). state.content.cells) c.in_ok-carry_out.ensures.ok)
-    follows same c.in-Ok.ensures.delta (ap (λ (d : Document). d.cells) c.self.view_is)
+    follows same c.in_ok-plan.ensures.delta (ap (λ (d : Document). d.cells) c.self.view_is)
