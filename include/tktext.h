@@ -105,7 +105,7 @@ int32_t tktext_call_told(tktext *handle, const uint8_t *bytes, size_t size, cons
      position comes first, and adjacent changes are one, as a replacement is.
    - Changes of tags: a tag was added to a range of characters of which none had it, or removed from one of which each
      had it.  Applied in order after the changes of the text, whose new characters have no tag yet, they give the new
-     characters with their tags.
+     characters with their tags.  Each range is as long as it can be.
    - Marks: the names of those that `mark set` or `mark unset` moved, so that each is at another offset of the text now,
      is new, or is gone.  An edit of the text names none, though it moves marks with the text, and undo, redo and
      replace move `insert`: after these, ask for the marks. */

@@ -327,6 +327,9 @@ static void check_tags(void)
           && tag_is(0, "b", "", 2, 3, 0), "the last character loses it where it stands then");
     check(call_told(&world, ".ttagdeletebbc", LENGTHS(2, 3, 6, 1, 1, 1)) == TKTEXT_ANSWER
           && tktext_told_tags(&report) == 1 && tag_is(0, "b", "", 0, 2, 0), "a tag that goes");
+    check(call_told(&world, ".tinsert1.0abb ccdb", LENGTHS(2, 6, 3, 2, 3, 2, 1)) == TKTEXT_ANSWER
+          && tktext_told_tags(&report) == 2 && tag_is(0, "b", "", 0, 4, 1) && tag_is(1, "c", "", 0, 2, 1),
+          "a tag of two texts");
     check(call_told(&world, ".ttagaddb", LENGTHS(2, 3, 3, 1)) == TKTEXT_FAULT && tktext_told_tags(&report) == 0, "a refused one");
     check(tag_is(0, "", "", 0, 0, 0), "no such change of a tag");
     tktext_report_drop(&report);

@@ -559,6 +559,10 @@ show(text.delete("1.5", "end"))
 show(text.edit_undo())
 show((text.tag_add("b", "1.0", "end"), text.edit_redo(), text.edit_undo()))
 show(text.tag_delete("b", "b", "none", "sel"))
+text.edit_separator()
+show(text.insert("1.0", "d", ("s", "t"), "e", "s", "f", "u", "g", ("s", "u")))
+show((text.edit_undo(), text.edit_redo()))
+show(text.edit_undo())
 show(text.replace("1.0", "1.2", "zz"))
 show((peer.tag_add("sel", "1.0"), text.tag_raise("sel"), text.mark_set("m", "1.1")))
 end()
@@ -573,6 +577,9 @@ None [[('b', 5, 6, False)], 1]
  []
 (None, '', '') [[('b', 1, 2, True), ('b', 4, 8, True)], 2, [('b', 5, 7, True)], 1]
 None [[('b', 0, 8, False)], 1]
+None [[('s', 0, 2, True), ('s', 3, 4, True), ('t', 0, 1, True), ('u', 2, 4, True)], 4]
+('', '') [[('s', 0, 2, True), ('s', 3, 4, True), ('t', 0, 1, True), ('u', 2, 4, True)], 4]
+ []
 None []
 (None, None, None) [1]
 ('TclError: bad text index "nowhere"', None) [1]

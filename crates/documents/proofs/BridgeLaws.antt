@@ -42,19 +42,19 @@ keys_same {keys} {others} same = set.same_set key_cmp_total key_cmp_exact keys o
 -- ---- the keys of a set of slots
 
 -- with a key, if the set has its slot
-abbrev with_pair : Bool → Key → Keys → Keys
+abbrev pub with_pair : Bool → Key → Keys → Keys
 with_pair known key keys = elim known [ true ↦ set.insert keys key | false ↦ keys ]
 
-contains-with_pair : (known : Bool) (key : Key) (keys : Keys) (q : Key) →
+pub contains-with_pair : (known : Bool) (key : Key) (keys : Keys) (q : Key) →
     set.contains (with_pair known key keys) q ≡ ((known && eq_by_cmp key_cmp q key) || set.contains keys q)
 contains-with_pair true key keys q = set.contains-insert key_cmp_total keys key q
 contains-with_pair false key keys q = refl
 
-or_either : (a b c : Bool) → (a || (b || c)) ≡ ((a || b) || c)
+pub or_either : (a b c : Bool) → (a || (b || c)) ≡ ((a || b) || c)
 or_either true b c = refl
 or_either false b c = refl
 
-or_none : (a : Bool) → (a || false) ≡ a
+pub or_none : (a : Bool) → (a || false) ≡ a
 or_none true = refl
 or_none false = refl
 

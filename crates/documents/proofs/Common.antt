@@ -44,9 +44,9 @@ pub use Rattle.documents.specs.History.{undo_found, undone, with_end}
 pub use Rattle.documents.specs.Inside.{parts_of}
 pub use Rattle.documents.specs.Kept.{AreKnown, AreMarked, AreSeats, HasKnownSlots, HasOwnMarks, IsMarked, IsOrderly}
 pub use Rattle.documents.specs.Kept.{IsSeated, IsSound, Stands, is_window_name}
-pub use Rattle.documents.specs.Keys.{Key, Keys, is_shared, key_cmp, key_named, key_pairs, keyed, keys_listed}
-pub use Rattle.documents.specs.Keys.{keys_named, keys_of, numbers_gone, pair_slots, rank, seat_pair, seats_left}
-pub use Rattle.documents.specs.Keys.{selection_stays, set_key, tag_pair}
+pub use Rattle.documents.specs.Keys.{Key, Keys, is_shared, key_cmp, key_named, key_pairs, keyed, keys_named, keys_of}
+pub use Rattle.documents.specs.Keys.{numbers_gone, pair_slots, rank, seat_pair, seats_left, selection_stays, set_key}
+pub use Rattle.documents.specs.Keys.{tag_pair}
 pub use Rattle.documents.specs.Marks.{mark_names, mark_offset, mark_unset, origin_in, place_named, set_found}
 pub use Rattle.documents.specs.Marks.{shared_from, shown_at, usable_marks, with_current, with_insert, with_mark}
 pub use Rattle.documents.specs.Marks.{with_shared, with_widget}
@@ -60,8 +60,9 @@ pub use Rattle.documents.specs.Seats.{IsLonger}
 pub use Rattle.documents.specs.Tags.{add_spans, key_stays, known_or, lowered, raised, remove_spans, reordered}
 pub use Rattle.documents.specs.Tags.{tag_delete, tags_on, without_tags}
 pub use Rattle.documents.specs.TagsGone.{AreGone, TellsGone}
-pub use Rattle.documents.specs.TagsTold.{AreDistinct, AreKeysOf, IsTagChange, TellsSpan, TellsSpans, TellsTags}
-pub use Rattle.documents.specs.TagsTold.{after_changes, flags_of, key_set, run_changes, slot_changes, untagged}
+pub use Rattle.documents.specs.TagsTold.{AddsRuns, AreDistinct, AreGapped, AreRising, HoldsSlots, IsTagChange, IsTagRun}
+pub use Rattle.documents.specs.TagsTold.{LeavesGap, LiesIn, TellsRuns, TellsSpan, TellsSpans, TellsTags, after_changes}
+pub use Rattle.documents.specs.TagsTold.{flags_of, in_key_run, in_run, is_turned, some_change, untagged}
 pub use Rattle.documents.specs.Texts.{insert_at, insertion_offset, joined_text, keyed_text, tags_with, within_limits}
 pub use Rattle.documents.specs.Told.{Foretells, TellsCells}
 pub use Rattle.documents.specs.Views.{is_idle, shown, shown_flags, view_end, view_start}
@@ -71,13 +72,12 @@ pub use Rattle.documents.specs.Widgets.{without_selections}
 pub use Rattle.documents.specs.declared.tag_lists.TagChange.{TagChange}
 pub use Rattle.documents.specs.declared.told.EditTold.{EditTold}
 pub use Rattle.edit_ops.proofs.AnchoredLaws.{all-moved, all-removed, anchored-stand}
-pub use Rattle.edit_ops.proofs.DeltaLaws.{apart-at, changed-at}
 pub use Rattle.edit_ops.proofs.HunkLaws.{map-patched}
 pub use Rattle.edit_ops.proofs.KeepLaws.{deleted-kept, deleted-runs, replaced-kept, texts-kept}
 pub use Rattle.edit_ops.proofs.ReversalLaws.{back-cons, back-reverted, back-undone, group-redone-text}
 pub use Rattle.edit_ops.proofs.ReversalLaws.{group-undone-text, guarded, guarded-holds, redone-kept, redone-text}
 pub use Rattle.edit_ops.proofs.ReversalLaws.{undone-kept}
-pub use Rattle.edit_ops.proofs.RunLaws.{some_is}
+pub use Rattle.edit_ops.proofs.RunLaws.{inside, inside-before, inside-behind, inside-is, some_is}
 pub use Rattle.edit_ops.proofs.StartLaws.{Begins, inserted-behind, is-start, removed-behind, text-end-begins}
 pub use Rattle.edit_ops.specs.Anchors.{AnchorsStand, AreAnchored, anchors_moved, anchors_removed}
 pub use Rattle.edit_ops.specs.Deletions.{delete_set, deleted, deletions_in, in_spans, removed_spans, runs_below}
@@ -105,18 +105,17 @@ pub use Rattle.name_list.proofs.ListLaws.{stands_map, stood_at}
 pub use Rattle.name_list.specs.Names.{AreApart, AreNames, IsLeastFree, Named, Names, numbers_of}
 pub use Rattle.search_dump.specs.Dump.{dump_elements, name_of_rank, seen_by}
 pub use Rattle.std.proofs.Math.ListN.{replicate}
-pub use Rattle.std.proofs.lemmas.Bool.{false≢true, and_parts, cases_lt, eqb-false, false_from_ne_true, le-leb, lt-ltb}
-pub use Rattle.std.proofs.lemmas.Bool.{ltb-false, ltb-true, or_left, or_right}
+pub use Rattle.std.proofs.lemmas.Bool.{false≢true, and_parts, cases_lt, eqb-false, false_from_ne_true, le-leb, le-ltb}
+pub use Rattle.std.proofs.lemmas.Bool.{lt-ltb, ltb-false, ltb-true, or_left, or_right}
 pub use Rattle.std.proofs.lemmas.Bool.Decides.{nat_tests}
 pub use Rattle.std.proofs.lemmas.Grind.{get_or-set_at}
 pub use Rattle.std.proofs.lemmas.List.{drop-drop, drop-take, drop_all, drop_at, drop_more, get_or-drop, get_or-map}
 pub use Rattle.std.proofs.lemmas.List.{get_or-set_other, get_or-take, get_or_append_left, get_or_default, get_or_past}
 pub use Rattle.std.proofs.lemmas.List.{length-map, length-set, length-take-le, map-append, map-id, nil_from_length}
 pub use Rattle.std.proofs.lemmas.List.{replicate_more, take-append-drop, take-take, take_all, take_at, take_more}
-pub use Rattle.std.proofs.lemmas.List.Edits.{split_between}
 pub use Rattle.std.proofs.lemmas.List.Elements.{All-append, All-cons, All-drop, All-from_get_or, All-get_or, All-head}
-pub use Rattle.std.proofs.lemmas.List.Elements.{All-map, All-nil, All-push, All-replicate, All-set, All-tail, All-take}
-pub use Rattle.std.proofs.lemmas.List.Elements.{All-weaker, Contains-append_cases, Contains-append_left}
+pub use Rattle.std.proofs.lemmas.List.Elements.{All-map, All-more, All-nil, All-push, All-replicate, All-set, All-tail}
+pub use Rattle.std.proofs.lemmas.List.Elements.{All-take, All-weaker, Contains-append_cases, Contains-append_left}
 pub use Rattle.std.proofs.lemmas.List.Elements.{Contains-append_right}
 pub use Rattle.std.proofs.lemmas.List.Folds.{drop_split, find-append, flat_map-map, list_any-append}
 pub use Rattle.std.proofs.lemmas.List.Sums.{sum_by-cons}
@@ -141,6 +140,7 @@ pub use Rattle.tcl_words.specs.ListGrowth.{Goes}
 pub use Rattle.tcl_words.specs.ListText.{list_text}
 pub use Rattle.tcl_words.specs.Unread.{texts_of}
 pub use Rattle.text_cursor.specs.Around.{shared_slots}
+pub use Rattle.text_index.proofs.FlagLaws.{next-alike, next-other}
 pub use Rattle.text_index.specs.Meanings.{AreWithin, MeanTheSame, shown_meanings, word_value}
 pub use Rattle.text_index.specs.Ranges.{next_range, previous_range, tag_ranges}
 pub use Rattle.text_index.specs.Views.{IsView, own_place, shared_place, shown_mark}
@@ -148,9 +148,10 @@ pub use Rattle.text_index.specs.Words.{is_word}
 pub use Rattle.text_model.proofs.CellLaws.{characters-inserted, characters-removed, characters-with_slot}
 pub use Rattle.text_model.proofs.CellLaws.{characters-without_slots, contains-set_slot}
 pub use Rattle.text_model.proofs.DocumentLaws.{IsDocument-inserted, IsDocument-new, IsDocument-removed}
-pub use Rattle.text_model.proofs.SpliceLaws.{changed-same, length-cells_inserted, length-changed, length-inserted}
-pub use Rattle.text_model.proofs.SpliceLaws.{length-removed, map-alike, map-changed, map-inserted, map-map, map-removed}
-pub use Rattle.text_model.proofs.SpliceLaws.{map-slice_range}
+pub use Rattle.text_model.proofs.SpliceLaws.{changed-same, get_or-changed_before, get_or-changed_behind}
+pub use Rattle.text_model.proofs.SpliceLaws.{get_or-changed_within, length-cells_inserted, length-changed}
+pub use Rattle.text_model.proofs.SpliceLaws.{length-inserted, length-removed, map-alike, map-changed, map-inserted}
+pub use Rattle.text_model.proofs.SpliceLaws.{map-map, map-removed, map-slice_range}
 pub use Rattle.text_model.specs.Changes.{flag_at, is_alike, next_change}
 pub use Rattle.text_model.specs.Content.{Content, Marks, Slots, flags, map_marks, new_content, slot_sets}
 pub use Rattle.text_model.specs.Documents.{IsDocument, MarksStand, ends_in_newline}

@@ -1,31 +1,42 @@
 -- What is reported of a delta of a store's cells is what it makes of the cells with keys.
-use Rattle.documents.proofs.Common.{◌≡◌, ℕ, ◌+◌, ◌<◌, true, List, [], ◌∷◌, ◌++◌, Option, None, Some, length, map, take}
-use Rattle.documents.proofs.Common.{drop, get_or, refl, sym, ap, ap₂, subst, ◌∙◌, arith, drop_more, take-append-drop}
-use Rattle.documents.proofs.Common.{length-take-le, map-map, map-append, get_or_from_slice_get, Cell, Named, slot_sets}
+use Rattle.documents.proofs.Common.{◌≡◌, ℕ, ◌+◌, ◌<◌, true, List, [], ◌∷◌, ◌++◌, Option, None, Some, length, map, refl}
+use Rattle.documents.proofs.Common.{sym, ap, ap₂, subst, ◌∙◌, arith, append-nil, true≢false, All, map-map, Cell, Named}
 use Rattle.documents.proofs.Common.{Action, AreHunksOf, bare_cells, slotted, Tells, hunk_changes, patched, patched_by}
-use Rattle.documents.proofs.Common.{map-patched, SlotRun, AreSeats, AreTags, Tags, Key, key_pairs, keyed, keys_listed}
-use Rattle.documents.proofs.Common.{run_changes, slot_changes, untagged, KeyedCell, TellsCells, TellsTags}
-use Rattle.documents.proofs.Common.{TagChange, EditTold, bare, false, changed, get_or-map, length-map, without_slots}
-use Rattle.documents.proofs.Common.{Bool, AreHunks, IfSome, Anchors, Content, Log, State, slice_get_within, changed-at}
-use Rattle.documents.proofs.Common.{IsDelta, IsLostRun, KnowsDelta, bared, hunks_made, lost_run}
+use Rattle.documents.proofs.Common.{map-patched, SlotRun, AreSeats, AreTags, Tags, Key, key_pairs, keyed, untagged}
+use Rattle.documents.proofs.Common.{KeyedCell, TellsCells, TellsTags, AreBareRuns, is_turned, TagChange, EditTold}
+use Rattle.documents.proofs.Common.{false, AreGapped, AreRising, TellsRuns, Bool, AreHunks, IfSome, Anchors, Content}
+use Rattle.documents.proofs.Common.{Log, State, IsDelta, IsLostRun, KnowsDelta, bared, hunks_made, lost_run}
 use Rattle.edit_ops.specs.Plans.{planned}
 use Rattle.edit_ops.specs.declared.plans.Effects.{Effects}
 use Rattle.edit_ops.specs.declared.deltas.Delta.{Delta}
 use Rattle.documents.proofs.BridgeLaws.{keys_of-empty}
+use Rattle.documents.proofs.KeyRunLaws.{key-run-none, turned-itself}
 use Rattle.documents.proofs.KeyedLaws.{keyed_cell}
 use Rattle.documents.proofs.PartsLaws.{characters-keyed, length-keyed}
-use Rattle.documents.proofs.TagsToldLaws.{keys-listed, tells-bare, tells-slot-runs, tells-then}
+use Rattle.documents.proofs.SlotRunLaws.{TurnsSlots, characters-lost, characters-slotted, distinct-pairs, lost-turns}
+use Rattle.documents.proofs.SlotRunLaws.{rising-bare, runs-turn, slotted-turns}
+use Rattle.documents.proofs.TagRunLaws.{turns-tell}
 use Rattle.documents.proofs.ToldLaws.{hunks-tell}
 use Rattle.std.specs.FinSet as set
 use Rattle.text_model.specs.Content as model
 
--- a character loses its slots
-abbrev pub lost_changes : List (ℕ × Key) → Option SlotRun → List TagChange
-lost_changes pairs None = []
-lost_changes pairs (Some run) = run_changes run.from run.to false (keys_listed pairs run.slots)
+-- what is reported of a character that loses its slots
+abbrev pub TellsLost : List (ℕ × Key) → Option SlotRun → List TagChange → Type 0
+TellsLost pairs None told = told ≡ []
+TellsLost pairs (Some run) told = AreRising 0 (run ∷ []) → TellsRuns pairs false (run ∷ []) [] told
 
-abbrev no_cell : Cell
-no_cell = record { character = 0; tags = set.empty }
+-- no runs, no changes
+no-runs : (pairs : List (ℕ × Key)) (on : Bool) (told more : List TagChange) → TellsRuns pairs on [] told more →
+    more ≡ told
+no-runs pairs on told more tells = tells.is ∙ ap (λ added. told ++ added) (none tells.added tells.shaped (λ key at.
+    tells.turns key at ∙ key-run-none key pairs [] at (λ slot. refl))) ∙ append-nil told
+  where
+    none : (changes : List TagChange) → All (λ (c : TagChange). (c.from < c.to) × (c.on ≡ on)) changes
+        → ((key : Key) (at : ℕ) → is_turned key at changes ≡ false) → changes ≡ []
+    none [] shaped idle = refl
+    none (change ∷ changes) shaped idle = absurd (true≢false
+        (sym (turned-itself (change ∷ changes) 0 change (omega arith) (shaped 0 change (omega arith)).0)
+        ∙ idle change.key change.from))
 
 module _ (seats : List Named) (table : Tags) (seated : AreSeats seats) (sound : AreTags table) where
   abbrev ps : List (ℕ × Key)
@@ -36,63 +47,57 @@ module _ (seats : List Named) (table : Tags) (seated : AreSeats seats) (sound : 
       map-map (keyed_cell ps) (λ character. record { character = character; tags = set.empty }) text
       ∙ ap (λ keys. map (λ character. record { character = character; keys = keys }) text) (keys_of-empty ps)
 
-  lost-tells : (lost : Option SlotRun) (cells : List Cell) → IsLostRun cells lost
-      → TellsTags (lost_changes ps lost) (keyed ps cells) (keyed ps (bared lost cells))
-  lost-tells None cells is = refl
-  lost-tells (Some run) cells (one, slots) =
-      let at = run.from in
-      let inside = slice_get_within (slot_sets cells) at run.slots slots in
-      let within : at < length cells = omega (arith, inside, length-map cells (λ (c : Cell). c.tags)) in
-      let cell = get_or cells at no_cell in
-      let front = take at cells in
-      let rest = drop (at + 1) cells in
-      let there : length front ≡ at = length-take-le at cells (omega (arith, within)) in
-      let split : cells ≡ front ++ cell ∷ rest =
-      sym (take-append-drop at cells) ∙ ap (λ xs. front ++ xs) (drop_more cells at no_cell within) in
-      let own : cell.tags ≡ run.slots =
-      sym (get_or-map (λ (c : Cell). c.tags) cells at no_cell set.empty within)
-      ∙ get_or_from_slice_get (slot_sets cells) at run.slots set.empty slots in
-      let keyed-split : (middle : Cell) → keyed ps (front ++ middle ∷ rest)
-      ≡ keyed ps front ++ keyed_cell ps middle ∷ keyed ps rest = λ middle. map-append (keyed_cell ps) front (middle ∷ rest) in
-      let made : keyed ps (bared (Some run) cells) ≡ keyed ps front ++ bare (keyed_cell ps cell) ∷ keyed ps rest =
-      ap (keyed ps) (ap₂ (λ n cs. changed without_slots at n cs) one split ∙ changed-at at front cell rest there)
-      ∙ keyed-split (without_slots cell)
-      ∙ ap (λ keys. keyed ps front ++ record { character = cell.character; keys = keys } ∷ keyed ps rest)
-      (keys_of-empty ps) in
-      let begins : length (keyed ps front) ≡ at = length-keyed ps front ∙ there in
-      subst (λ listed. TellsTags listed (keyed ps cells) (keyed ps (bared (Some run) cells)))
-      (ap₂ (λ from slots. run_changes from (from + 1) false (keys_listed ps slots)) begins own
-      ∙ ap (λ to. run_changes at to false (keys_listed ps run.slots)) (sym one))
-      (subst (λ old. TellsTags (run_changes (length (keyed ps front)) (length (keyed ps front) + 1) false
-      (keys_listed ps cell.tags)) old (keyed ps (bared (Some run) cells))) (sym (ap (keyed ps) split ∙ keyed-split cell))
-      (subst (λ new. TellsTags (run_changes (length (keyed ps front)) (length (keyed ps front) + 1) false
-      (keys_listed ps cell.tags)) (keyed ps front ++ keyed_cell ps cell ∷ keyed ps rest) new) (sym made)
-      (tells-bare (keyed_cell ps cell) (keys_listed ps cell.tags) (keyed ps front) (keyed ps rest)
-      (keys-listed seats table cell.tags seated sound))))
+  -- runs that turn slots, from no changes on
+  alone : (on : Bool) (runs : List SlotRun) (old new : List Cell) (told : List TagChange)
+      → ((at : ℕ) → TurnsSlots on runs old new at) → model.characters new ≡ model.characters old
+      → TellsRuns ps on runs [] told → TellsTags told (keyed ps old) (keyed ps new) × AreGapped told
+  alone on runs old new told turns same tells =
+      let made = runs-turn ps on runs old new [] told turns same (distinct-pairs seats table seated sound) tells in
+      subst (λ changes. TellsTags changes (keyed ps old) (keyed ps new) × AreGapped changes) (sym tells.is)
+      (turns-tell on tells.added (keyed ps old) (keyed ps new) made, made.gapped)
 
-  pub delta-tells : (actions : List Action) (old new : List Cell) (delta : Delta) (told : EditTold)
-      → IsDelta actions old new delta → told.changes ≡ hunk_changes (model.characters old) delta.hunks.items
+  -- a character that loses its slots, or else runs that get theirs
+  either-tells : (lost : Option SlotRun) (runs : List SlotRun) (cells : List Cell) (between told : List TagChange)
+      → IsLostRun cells lost → IfSome lost (λ _. runs ≡ []) → AreBareRuns 0 runs (bared lost cells)
+      → TellsLost ps lost between → (AreRising 0 runs → TellsRuns ps true runs between told)
+      → TellsTags told (keyed ps cells) (keyed ps (slotted runs (bared lost cells))) × AreGapped told
+  either-tells None runs cells between told is either bare lost gained =
+      alone true runs cells (slotted runs cells) told (λ at. slotted-turns 0 runs cells at bare)
+      (characters-slotted 0 runs cells bare)
+      (subst (λ before. TellsRuns ps true runs before told) lost (gained (rising-bare 0 runs cells bare)))
+  either-tells (Some run) runs cells between told is either bare lost gained =
+      let one = is.0 in
+      let left = bared (Some run) cells in
+      let made : slotted runs left ≡ left = ap (λ rs. slotted rs left) either in
+      let same : told ≡ between =
+      no-runs ps true between told (subst (λ rs. TellsRuns ps true rs between told) either
+      (gained (rising-bare 0 runs left bare))) in
+      subst (λ new. TellsTags told (keyed ps cells) (keyed ps new) × AreGapped told) (sym made)
+      (subst (λ changes. TellsTags changes (keyed ps cells) (keyed ps left) × AreGapped changes) (sym same)
+      (alone false (run ∷ []) cells left between (λ at. lost-turns run cells at is) (characters-lost run cells one)
+      (lost (omega arith, omega (arith, one), tt))))
+
+  pub delta-tells : (actions : List Action) (old new : List Cell) (delta : Delta) (between : List TagChange)
+      (told : EditTold) → IsDelta actions old new delta
+      → told.changes ≡ hunk_changes (model.characters old) delta.hunks.items
       → Tells told.changes (model.characters old) (patched 0 delta.hunks.items (model.characters old))
-      → told.tags ≡ lost_changes ps (lost_run delta) ++ slot_changes ps delta.gained.items
+      → TellsLost ps (lost_run delta) between
+      → (AreRising 0 delta.gained.items → TellsRuns ps true delta.gained.items between told.tags)
       → TellsCells actions (keyed ps old) (keyed ps new) told
-  delta-tells actions old new delta told is changes tells tags =
+  delta-tells actions old new delta between told is changes tells lost gained =
       let hunks = delta.hunks.items in
       let text = characters-keyed ps old in
       let middle = hunks_made delta old in
-      let between : keyed ps middle ≡ patched_by untagged 0 hunks (keyed ps old) =
+      let made : keyed ps middle ≡ patched_by untagged 0 hunks (keyed ps old) =
       map-patched (keyed_cell ps) bare_cells untagged untagged-kept 0 hunks old in
+      let tags = either-tells (lost_run delta) delta.gained.items middle between told.tags is.lost is.either is.bare lost
+      gained in
       hunks-tell actions (keyed ps old) (keyed ps new) hunks told
       (subst (λ n. AreHunksOf actions n hunks) (sym (length-keyed ps old)) is.exact)
       (changes ∙ ap (λ t. hunk_changes t hunks) (sym text))
       (subst (λ t. Tells told.changes t (patched 0 hunks t)) (sym text) tells)
-      (subst (λ ts. TellsTags ts (patched_by untagged 0 hunks (keyed ps old)) (keyed ps new)) (sym tags)
-      (subst (λ cs. TellsTags (lost_changes ps (lost_run delta) ++ slot_changes ps delta.gained.items) cs (keyed ps new)) between
-      (subst (λ cs. TellsTags (lost_changes ps (lost_run delta) ++ slot_changes ps delta.gained.items) (keyed ps middle)
-      (keyed ps cs)) (sym is.cells)
-      (tells-then (lost_changes ps (lost_run delta)) (slot_changes ps delta.gained.items) (keyed ps middle)
-      (keyed ps (bared (lost_run delta) middle)) (keyed ps (slotted delta.gained.items (bared (lost_run delta) middle)))
-      (lost-tells (lost_run delta) middle is.lost)
-      (tells-slot-runs seats table seated sound 0 delta.gained.items (bared (lost_run delta) middle) is.bare)))))
+      (subst (λ cs. TellsTags told.tags cs (keyed ps new)) made
+      (subst (λ cs. TellsTags told.tags (keyed ps middle) (keyed ps cs)) (sym is.cells) tags.0)) tags.1
 
 -- ---- what is known of a plan's delta
 

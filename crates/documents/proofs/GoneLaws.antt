@@ -7,13 +7,14 @@ use Rattle.documents.proofs.Common.{length-map, none-some, same_Some, Named, Are
 use Rattle.documents.proofs.Common.{Slots, flags, changed, Cell, map-alike, map-map, is_among, is_same, KeyedCell}
 use Rattle.documents.proofs.Common.{with_key, Key, Keys, key_cmp, key_pairs, keyed, keys_of, set_key, AreSeats}
 use Rattle.documents.proofs.Common.{key_stays, without_tags, AreGone, TellsGone, TellsSpan, TellsTags, flags_of}
-use Rattle.documents.proofs.Common.{TagChange}
+use Rattle.documents.proofs.Common.{AddsRuns, AreGapped, LiesIn, TagChange, All, All-append, All-nil, All-weaker}
 use Rattle.std.specs.declared.string.String.{String}
 use Rattle.documents.proofs.BridgeLaws.{contains-set_key, key_itself, key_tied, keys_of-has, keys_same, retained}
 use Rattle.documents.proofs.KeyedLaws.{keyed_cell}
 use Rattle.documents.proofs.LookupLaws.{has, and_none}
 use Rattle.documents.proofs.MarksToldLaws.{among-last, among-other, same-word, texts-more, words-are}
 use Rattle.documents.proofs.SlotLaws.{not_selection, same_slot, slot_for, slot_high}
+use Rattle.documents.proofs.TagRunLaws.{gapped-append}
 use Rattle.documents.proofs.TagsToldLaws.{part-changed}
 use Rattle.std.specs.FinSet as set
 
@@ -39,6 +40,16 @@ stays-other names name key other = by key.selects key.name other
 -- the name's own goes
 stays-none : (names : List (List ℕ)) (name : List ℕ) → key_stays (names ++ name ∷ []) (tag_key name) ≡ false
 stays-none names name = ap not (among-last name name names (same-word name))
+
+-- what goes already goes still
+goes-still : (names : List (List ℕ)) (name : List ℕ) (key : Key) → key_stays names key ≡ false →
+    key_stays (names ++ name ∷ []) key ≡ false
+goes-still names name key goes =
+    elim (eq_by_cmp key_cmp key (tag_key name)) as (λ b. eq_by_cmp key_cmp key (tag_key name) ≡ b →
+    key_stays (names ++ name ∷ []) key ≡ false) [
+      | true ↦ λ tied. ap (key_stays (names ++ name ∷ [])) (key_tied key (tag_key name) tied) ∙ stays-none names name
+      | false ↦ λ other. stays-other names name key other ∙ goes
+    ] refl
 
 -- without a key that no character has, or that has gone already, nothing more goes
 retain-idle : (names : List (List ℕ)) (name : List ℕ) (keys : Keys) →
@@ -180,15 +191,25 @@ module _ (seats : List Named) (table : Tags) (seated : AreSeats seats) (sound : 
         ∙ map-alike (λ cell. without_tags [] (keyed_cell pairs cell)) (keyed_cell pairs) (λ cell.
         ap (λ (keys : Keys). record { character = cell.character; keys = keys }) (retain-all (keys_of pairs cell.tags)))
         cells);
+    own = subst (All (λ (change : TagChange). key_stays [] change.key ≡ false)) (sym none)
+        (All-nil (λ (change : TagChange). key_stays [] change.key ≡ false));
+    gapped = subst AreGapped (sym none) tt;
   }
 
   module _ (names : List (List ℕ)) (name : List ℕ) (seen : Slots) (told : List TagChange)
       (gone : AreGone seats table cells names seen told) where
+    own-more : All (λ (change : TagChange). key_stays (names ++ name ∷ []) change.key ≡ false) told
+    own-more = All-weaker (λ (change : TagChange). key_stays names change.key ≡ false)
+        (λ (change : TagChange). key_stays (names ++ name ∷ []) change.key ≡ false) (λ change goes.
+        goes-still names name change.key goes) told gone.own
+
     -- an unknown name
     pub gone-unknown : None ≡ slot_of name table.tags → AreGone seats table cells (names ++ name ∷ []) seen told
     gone-unknown none = record {
       slots = slots-kept names name seen told gone (λ slot is own. absurd (none-some slot (none ∙ is)));
       tells = gone-idle names name told (none-has names name (no-slot name (sym none))) gone.tells;
+      own = own-more;
+      gapped = gone.gapped;
     }
 
     -- `sel`
@@ -199,6 +220,8 @@ module _ (seats : List Named) (table : Tags) (seated : AreSeats seats) (sound : 
           absurd (some (same_Some other slot (sym other_is ∙ sym is) ∙ own)));
       tells = gone-idle names name told
           (none-has names name (selection-slot name (sym is ∙ ap Some own))) gone.tells;
+      own = own-more;
+      gapped = gone.gapped;
     }
 
     -- one that has gone already
@@ -211,14 +234,16 @@ module _ (seats : List Named) (table : Tags) (seated : AreSeats seats) (sound : 
           tells = gone-idle names name told (λ slots.
               ap (λ b. set.contains (keys_of pairs slots) (tag_key name) && not b) among
               ∙ and_none (set.contains (keys_of pairs slots) (tag_key name))) gone.tells;
+          own = own-more;
+          gapped = gone.gapped;
         }
 
     -- one that goes now
     pub gone-more : (slot : ℕ) → Some slot ≡ slot_of name table.tags → slot ≢ 0 → set.contains seen slot ≡ false →
         (now : Slots) → now ≡ set.insert seen slot → (more : List TagChange)
-        → TellsSpan (tag_key name) false (flags slot cells) 0 (length cells) told more →
-        AreGone seats table cells (names ++ name ∷ []) now more
-    gone-more slot is own new now made more tells =
+        → TellsSpan (tag_key name) false (flags slot cells) 0 (length cells) told more
+        → AddsRuns (tag_key name) 0 (length cells) told more → AreGone seats table cells (names ++ name ∷ []) now more
+    gone-more slot is own new now made more tells runs =
         let fresh : is_among name names ≡ false = sym (gone.slots name slot (sym is) own) ∙ new in
         let before = map (without_tags names) old in
         let f = with_key (tag_key name) false in
@@ -262,4 +287,12 @@ module _ (seats : List Named) (table : Tags) (seated : AreSeats seats) (sound : 
           tells = subst (TellsTags more old) (all ∙ left)
               (tells old before (long ∙ sym (length-map cells (λ (cell : Cell). set.contains cell.tags slot)))
               (ap (λ fs. slice_range fs 0 (length cells)) flagged) gone.tells);
+          own = subst (All (λ (change : TagChange). key_stays (names ++ name ∷ []) change.key ≡ false)) (sym runs.is)
+              (All-append (λ (change : TagChange). key_stays (names ++ name ∷ []) change.key ≡ false) told runs.added
+              own-more (All-weaker (LiesIn (tag_key name) 0 (length cells))
+              (λ (change : TagChange). key_stays (names ++ name ∷ []) change.key ≡ false) (λ change lies.
+              ap (key_stays (names ++ name ∷ [])) lies.same ∙ stays-none names name) runs.added runs.lie));
+          gapped = subst AreGapped (sym runs.is) (gapped-append told runs.added gone.gapped runs.gapped
+              (λ k d within j e inner same. absurd (true≢false (sym (ap not fresh)
+              ∙ ap (key_stays names) (sym (same ∙ (runs.lie j e inner).same)) ∙ gone.own k d within))));
         }

@@ -1,3 +1,4 @@
+pub mod AddedRunLaws
 pub mod BackLaws
 pub mod BridgeLaws
 pub mod CarriedLaws
@@ -14,6 +15,7 @@ pub mod InsertionLaws
 pub mod JournalLaws
 pub mod KeyLaws
 pub mod KeyListLaws
+pub mod KeyRunLaws
 pub mod KeyedLaws
 pub mod KnownLaws
 pub mod LeadLaws
@@ -41,6 +43,7 @@ pub mod SeatLaws
 pub mod SeatedLaws
 pub mod SeenLaws
 pub mod SlotLaws
+pub mod SlotRunLaws
 pub mod SpanLaws
 pub mod SpanToldLaws
 pub mod StateLaws
@@ -49,6 +52,7 @@ pub mod StillLeadLaws
 pub mod StillMarksLaws
 pub mod TableLaws
 pub mod TagLaws
+pub mod TagRunLaws
 pub mod TaggedLaws
 pub mod TagsToldLaws
 pub mod ToldLaws

@@ -3,7 +3,7 @@ use Rattle.documents.proofs.Common.{◌≡◌, ℕ, ◌+◌, ◌-◌, ◌<◌, �
 use Rattle.documents.proofs.Common.{length, take, drop, get_or, refl, sym, ap, ap₂, ◌∙◌, arith, subst, append_assoc}
 use Rattle.documents.proofs.Common.{Some, cond, None, true≢false, slice_range, All, drop-drop, drop-take, get_or-drop}
 use Rattle.documents.proofs.Common.{get_or-map, get_or-take, length-append, length-drop, length-map, length-take-le}
-use Rattle.documents.proofs.Common.{map-append, take-append-drop, take-take, take_more, split_between, All-drop}
+use Rattle.documents.proofs.Common.{length-take, map-append, take-append-drop, take-take, take_more, All-drop}
 use Rattle.documents.proofs.Common.{All-from_get_or, All-get_or, All-head, All-map, All-tail, All-take, drop_split}
 use Rattle.documents.proofs.Common.{get_or_from_slice_get, same_Some, Named, known_tags, flags, flag_at, is_alike}
 use Rattle.documents.proofs.Common.{next_change, LimitTable, changed, length-changed, map-slice_range, in_spans}
@@ -11,10 +11,11 @@ use Rattle.documents.proofs.Common.{SpanFits, Span, with_name, is_among, Empty, 
 use Rattle.documents.proofs.Common.{Widget, document_of, widget_at, with_key, with_tag, Key, key_named, key_pairs}
 use Rattle.documents.proofs.Common.{set_key, Stands, key_of, Change, answered, refused, spans_shown, add_spans}
 use Rattle.documents.proofs.Common.{remove_spans, IsTagChange, TellsSpan, TellsSpans, TellsTags, flags_of, Foretells}
-use Rattle.documents.proofs.Common.{TellsCells, TagChange, EditTold, slice_get, nat_lt, if◌then◌else◌, apart-at}
+use Rattle.documents.proofs.Common.{TagChange, slice_get, nat_lt, if◌then◌else◌, AreGapped, next-alike}
+use Rattle.std.proofs.lemmas.List.Edits.{split_between}
+use Rattle.edit_ops.proofs.DeltaLaws.{apart-at}
 use mathlib.Core.Bool.{beq}
 use Rattle.name_list.specs.Names.{names_of}
-use Rattle.text_index.proofs.FlagLaws.{next-alike}
 use Rattle.edit_ops.specs.Deletions.{AreApart}
 use Rattle.documents.proofs.BridgeLaws.{contains-set_key, key_itself, keys_of-has}
 use Rattle.documents.proofs.KeyedLaws.{keyed-flags, keyed_cell}
@@ -24,7 +25,8 @@ use Rattle.edit_ops.proofs.PaintLaws.{painted-same}
 use Rattle.documents.proofs.PartsLaws.{Sits, mapped-at}
 use Rattle.documents.proofs.SlotLaws.{slot_for, slot_for-named}
 use Rattle.documents.proofs.SpanLaws.{slot_known}
-use Rattle.documents.proofs.TagsToldLaws.{drop-changed, part-changed, set_again, tells-then, told-characters}
+use Rattle.documents.proofs.TagsToldLaws.{drop-changed, part-changed, set_again, tells-then}
+use Rattle.documents.proofs.ToldLaws.{of_tags, tags-alone}
 use Rattle.std.specs.FinSet as set
 
 -- ---- parts of a list
@@ -139,6 +141,12 @@ pub run-alike : (key : Key) (on : Bool) (flags : List Bool) (at end : ℕ) (told
     All (λ f. f ≡ on) (slice_range flags at end) → TellsSpan key on flags at end told told
 run-alike key on flags at end told ordered are start cells long same so_far =
     subst (TellsTags told start) (sym (unchanged key on flags cells at end ordered same are)) so_far
+
+-- no characters
+pub run-none : (key : Key) (on : Bool) (flags : List Bool) (at : ℕ) (told : List TagChange) →
+    TellsSpan key on flags at at told told
+run-none key on flags at told = run-alike key on flags at at told (omega arith) (λ k d within.
+    absurd (omega (arith, within, length-take (at - at) (drop at flags))))
 
 -- a run of characters that are otherwise
 pub run-unlike : (key : Key) (on : Bool) (flags : List Bool) (at end : ℕ) (told : List TagChange) → at < end →
@@ -383,23 +391,11 @@ module _ (parts : Parts) (document : Document) (place slot : ℕ) (stands : Stan
 
 -- ---- what commands on tags tell
 
--- changes of tags alone
-abbrev pub of_tags : List TagChange → EditTold
-of_tags told = record { changes = []; tags = told }
-
-pub tags-alone : (told : List TagChange) (old new : List KeyedCell) → TellsTags told old new →
-    TellsCells [] old new (of_tags told)
-tags-alone told old new tells = record {
-  text = told-characters told old new tells;
-  exact = record { same = λ text long. refl; falling = tt };
-  tags = tells;
-}
-
 pub foretells-added : (limits : LimitTable) (document : Document) (widget : Widget) (name : List ℕ) (places : List ℕ)
     (spans : List Span) (told : List TagChange) → spans ≡ spans_shown document widget places
-    → TellsTags told document.cells (with_tag (key_of widget name) true spans document.cells)
+    → TellsTags told document.cells (with_tag (key_of widget name) true spans document.cells) → AreGapped told
     → Foretells document (add_spans limits document widget name places) (of_tags told)
-foretells-added limits document widget name places spans told are tells =
+foretells-added limits document widget name places spans told are tells gapped =
     let new = with_tag (key_of widget name) true (spans_shown document widget places) document.cells in
     let made : Change = answered (record document { tags = with_name document.tags name; cells = new }) Empty in
     elim (nat_lt (limits.tags + 1) (length (with_name document.tags name))) as (λ b.
@@ -407,23 +403,24 @@ foretells-added limits document widget name places spans told are tells =
       | true ↦ λ never. absurd (true≢false (sym never))
       | false ↦ λ _. tags-alone told document.cells new
           (subst (λ ss. TellsTags told document.cells (with_tag (key_of widget name) true ss document.cells)) are tells)
+          gapped
     ]
 
 pub foretells-removed : (parts : Parts) (document : Document) (place slot : ℕ) → Stands parts document →
     Sits parts document place slot → (name : List ℕ) (places : List ℕ) (spans : List Span) (told : List TagChange)
     → spans ≡ spans_shown document (widget_at document place) places → All (SpanFits (length document.cells)) spans
     → (let widget = widget_at document place in
-    TellsTags told document.cells (with_tag (key_of widget name) false spans document.cells)
+    TellsTags told document.cells (with_tag (key_of widget name) false spans document.cells) → AreGapped told
     → Foretells document (remove_spans document widget name places) (of_tags told))
-foretells-removed parts document place slot stands sits name places spans told are fits tells =
+foretells-removed parts document place slot stands sits name places spans told are fits tells gapped =
     let widget = widget_at document place in
     let key = key_of widget name in
     let new = with_tag key false (spans_shown document widget places) document.cells in
     elim (is_among name document.tags) as (λ b. is_among name document.tags ≡ b →
     Foretells document (answered (if b then record document { cells = new } else document) Empty) (of_tags told)) [
       | true ↦ λ _ _. tags-alone told document.cells new
-          (subst (λ ss. TellsTags told document.cells (with_tag key false ss document.cells)) are tells)
+          (subst (λ ss. TellsTags told document.cells (with_tag key false ss document.cells)) are tells) gapped
       | false ↦ λ absent _. tags-alone told document.cells document.cells
           (subst (TellsTags told document.cells)
-          (unknown-off parts document place slot stands sits name absent spans fits) tells)
+          (unknown-off parts document place slot stands sits name absent spans fits) tells) gapped
     ] refl

@@ -53,11 +53,6 @@ is_shared tag = not (is_same tag.name sel)
 abbrev pub key_pairs : List Named → List Tag → List (ℕ × Key)
 key_pairs seats tags = map seat_pair seats ++ map tag_pair (filter is_shared tags)
 
--- of these pairs the keys whose slots are in a set, in their order
-abbrev pub keys_listed : List (ℕ × Key) → Slots → List Key
-keys_listed pairs slots =
-    map (λ (pair : ℕ × Key). pair.1) (filter (λ (pair : ℕ × Key). set.contains slots pair.0) pairs)
-
 abbrev pub pair_slots : List (ℕ × Key) → List ℕ
 pair_slots pairs = map (λ (pair : ℕ × Key). pair.0) pairs
 

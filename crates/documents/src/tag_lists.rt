@@ -1,14 +1,14 @@
 //! Changes of tags, as they are reported.
 
-ghost use Rattle.std.specs.Prelude.{◌≡◌, ◌+◌, ◌<◌, ◌≤◌, ◌++◌, ◌∷◌, [], false, length, Bool, List, OnOk};
+ghost use Rattle.std.specs.Prelude.{◌≡◌, ℕ, ◌+◌, ◌<◌, ◌≤◌, ◌++◌, ◌∷◌, [], false, length, Bool, List, OnOk};
 ghost use Rattle.std.specs.List.{All};
 ghost use Rattle.text_model.specs.Content.{flags};
 ghost use Rattle.text_model.specs.TagBits.{slot_count};
 ghost use Rattle.edit_ops.specs.Deletions.{AreApart};
-ghost use Rattle.documents.specs.TagsTold.{run_changes, TellsSpan, TellsSpans};
+ghost use Rattle.documents.specs.TagsTold.{some_change, AddsRuns, AreRising, TellsRuns, TellsSpan, TellsSpans};
 
 use crate::keys::Key;
-use edit_ops::Span;
+use edit_ops::{SlotRun, Span};
 use std::alloc::{AllocError, Global};
 use std::marker::Model;
 use text_model::{TagSlot, TextStore};
@@ -69,19 +69,41 @@ impl TagList {
         Ok(())
     }
 
-    /// Adds the same of some keys.
-    pub fn push_run(
-        &mut self,
-        keys: &[Key],
-        from: usize,
-        to: usize,
-        on: bool,
-    ) -> Result<(), AllocError>
-        ensures { OnOk result (self.new ≡ self.old ++ run_changes from to on keys.now) }
+    /// Adds the same unless there are no characters between the offsets.
+    fn push_some(&mut self, key: &Key, from: usize, to: usize, on: bool) -> Result<(), AllocError>
+        ensures { OnOk result (self.new ≡ self.old ++ some_change key.now from to on) }
     {
-        for key in keys {
+        if from < to {
             self.push(key, from, to, on)?;
         }
+        Ok(())
+    }
+
+    /// Adds that a key, known by a slot, is put on those of some runs that have the slot, or taken off them. Of runs
+    /// that touch it adds one change.
+    pub fn push_joined(
+        &mut self,
+        key: &Key,
+        slot: TagSlot,
+        runs: &[SlotRun],
+        on: bool,
+    ) -> Result<(), AllocError>
+        requires { slot.0 < slot_count }
+        ensures { OnOk result (AreRising 0 runs.now →
+            TellsRuns ((slot.0, key.now) ∷ []) on runs.now self.old self.new) }
+    {
+        let mut from = 0;
+        let mut to = 0;
+        for run in runs {
+            if run.slots.has(slot) {
+                if to < run.from {
+                    self.push_some(key, from, to, on)?;
+                    from = run.from;
+                }
+                to = run.to;
+            }
+        }
+        self.push_some(key, from, to, on)?;
         Ok(())
     }
 
@@ -98,8 +120,9 @@ impl TagList {
         requires ordered { span.from ≤ span.to }
         requires within { span.to ≤ length (S.content store.now).cells }
         requires known { slot.0 < slot_count }
-        ensures { OnOk result (TellsSpan key.now on (flags slot.0 (S.content store.now).cells) span.from span.to
+        ensures tells { OnOk result (TellsSpan key.now on (flags slot.0 (S.content store.now).cells) span.from span.to
             self.old self.new) }
+        ensures runs { OnOk result (AddsRuns key.now span.from span.to self.old self.new) }
     {
         let mut at = span.from;
         while at < span.to {
@@ -123,8 +146,9 @@ impl TagList {
     ) -> Result<(), AllocError>
         requires apart { AreApart (length (S.content store.now).cells + 1) spans.now }
         requires known { slot.0 < slot_count }
-        ensures { OnOk result (TellsSpans key.now on (flags slot.0 (S.content store.now).cells) spans.now
+        ensures tells { OnOk result (TellsSpans key.now on (flags slot.0 (S.content store.now).cells) spans.now
             self.old self.new) }
+        ensures runs { OnOk result (AddsRuns key.now 0 (length (S.content store.now).cells) self.old self.new) }
     {
         for span in spans {
             self.push_unlike(store, slot, key, *span, on)?;
@@ -135,8 +159,10 @@ impl TagList {
     /// Adds that a key that no character has is put on spans, of which the last comes first. Where it is taken off,
     /// nothing is to be reported.
     pub fn push_whole(&mut self, key: &Key, spans: &[Span], on: bool) -> Result<(), AllocError>
-        ensures { OnOk result ((flags : List Bool) → AreApart (length flags + 1) spans.now →
+        ensures tells { OnOk result ((flags : List Bool) → AreApart (length flags + 1) spans.now →
             All (λ flag. flag ≡ false) flags → TellsSpans key.now on flags spans.now self.old self.new) }
+        ensures runs { OnOk result ((len : ℕ) → AreApart (len + 1) spans.now →
+            AddsRuns key.now 0 len self.old self.new) }
     {
         if !on {
             return Ok(());

@@ -13,7 +13,6 @@ ghost use Rattle.undo_stack.specs.declared.actions.Action.{Action};
 ghost use Rattle.edit_ops.specs.Told.{AreHunks};
 ghost use Rattle.documents.specs.Told.{TellsCells};
 
-use crate::keys::keys_in;
 use crate::tag_lists::TagList;
 use crate::tags_told::push_runs;
 use edit_ops::{ChangeList, Delta, EditedText, Plan, commit, tell};
@@ -79,11 +78,10 @@ fn report<S: TextStore>(
     };
     let mut list = TagList::new(alloc);
     if let Some(run) = lost {
-        let run = Box::into_inner(run);
-        let keys = keys_in(alloc, seats, tags, &run.slots)?;
-        list.push_run(&keys, run.from, run.to, false)?;
+        let runs = [Box::into_inner(run)];
+        push_runs(&mut list, alloc, seats, tags, &runs, false)?;
     }
-    push_runs(&mut list, alloc, seats, tags, &gained)?;
+    push_runs(&mut list, alloc, seats, tags, &gained, true)?;
     let changes = tell(alloc, store, hunks)?;
     Ok(EditTold {
         changes,

@@ -3,13 +3,14 @@
 use Rattle.peers.proofs.Common.{◌≡◌, ◌≢◌, ℕ, Bool, true, false, List, [], Some, Ok, Err, refl, sym, ap, ◌∙◌, subst}
 use Rattle.peers.proofs.Common.{Result, true≢false, LimitTable, Command, Delete, EditRedo, EditUndo, Insert, MarkSet}
 use Rattle.peers.proofs.Common.{MarkUnset, Replace, TagAdd, TagDelete, TagRemove, Answer, Fault, Memory, Document}
-use Rattle.peers.proofs.Common.{Widget, Change, characters, Does, MarksTold, widget_named, done, answer_of, no_edit}
+use Rattle.peers.proofs.Common.{Widget, Change, Does, MarksTold, widget_named, done, answer_of, no_edit}
 use Rattle.peers.proofs.Common.{MatchBool, AreMarksTold, is_told, edits_text, AreTold, edited, moved, Told, HasMarksOf}
 use Rattle.peers.proofs.Common.{told-still}
 use Rattle.documents.specs.Told.{TellsCells, IsTold, reply_of}
 use Rattle.documents.specs.declared.told.EditTold.{EditTold}
 use Rattle.peers.specs.Told.{answered}
 use Rattle.documents.proofs.StillCellLaws.{HasCellsOf, cells-marked, cells-quiet}
+use Rattle.documents.proofs.ToldLaws.{still-tells}
 use Rattle.peers.proofs.DoneLaws.{IsMarkMove, IsTagEdit, IsTextEdit, calling, other-done, quiet-done}
 use Rattle.peers.proofs.DoneLaws.{marks-done as moved-done}
 use Rattle.peers.proofs.MarksToldLaws.{marks-done, no-text}
@@ -123,11 +124,8 @@ made-holds {limits} {old} {new} {change} {answer} P does holds =
 pub still-cells : (change : Change) (old new : Document) → change.edits ≡ [] → HasCellsOf old new
     → TellsCells change.edits old.cells new.cells no_edit
 still-cells change old new still same =
-    subst (λ edits. TellsCells edits old.cells new.cells no_edit) (sym still) (record {
-      text = ap characters same;
-      exact = record { same = λ text long. refl; falling = tt };
-      tags = same;
-    })
+    subst (λ edits. TellsCells edits old.cells new.cells no_edit) (sym still)
+    (still-tells old.cells new.cells same)
 
 -- a command that edits the text
 pub told-text : (change : Change) (old new : Document) (follows : Bool) (widget : Widget)

@@ -1,5 +1,4 @@
-use Rattle.documents.proofs.Common.{◌≡◌, None, Some, false, sym, subst, ◌∙◌, chars, flags, TellsSpan}
-use Rattle.std.proofs.lemmas.Result.{on_ok_weaker}
+use Rattle.documents.proofs.Common.{◌≡◌, None, Some, false, sym, subst, ◌∙◌, chars, flags, AddsRuns, TellsSpan}
 use Rattle.documents.proofs.GoneLaws.{found-as, gone-more, gone-seen, gone-selection, gone-unknown}
 use Rattle.documents.proofs.tags_told.push_gone.Goals.{then-slot-eq0-via-then-slot-eq0}
 use Rattle.documents.proofs.tags_told.push_gone.Goals.{then-slot-eq0-via-else-slot-eq0+then-has}
@@ -36,16 +35,20 @@ returns g c =
     let cells = (g.S.TextStore.content c.args.store.now).cells in
     let name = c.args.key.now.name in
     let slot = c.in-Some.slot.0 in
+    let told = c.args.told.now in
+    let more = c.push_unlike.new.self in
+    let tells = c.in_ok-push_unlike.ensures.tells in
+    let runs = c.in_ok-push_unlike.ensures.runs in
     let is = found-as table.tags (Some slot) (chars c.as_str.result.now) name c.in-Some.ensures.value
     c.as_str.ensures.characters in
     let shared : c.args.key.now ≡ record { selects = false; name = name } = λ i. record {
       selects = c.requires.shared i;
       name = name;
     } in
-    on_ok_weaker c.push_unlike.result (λ tells seats names seated gone.
-    gone-more seats table seated c.requires.sound cells names name c.args.seen.now c.args.told.now gone slot is
-    c.if-slot-eq0.false (sym c.has.ensures ∙ c.if-has.false) c.with.result c.with.ensures c.push_unlike.new.self
-    (subst (λ to. TellsSpan (record { selects = false; name = name }) false (flags slot cells) 0 to c.args.told.now
-    c.push_unlike.new.self) c.len-to.ensures
-    (subst (λ key. TellsSpan key false (flags slot cells) 0 c.len-to.result c.args.told.now c.push_unlike.new.self)
-    shared tells))) c.push_unlike.ensures
+    λ seats names seated gone.
+    gone-more seats table seated c.requires.sound cells names name c.args.seen.now told gone slot is
+    c.if-slot-eq0.false (sym c.has.ensures ∙ c.if-has.false) c.with.result c.with.ensures more
+    (subst (λ to. TellsSpan (record { selects = false; name = name }) false (flags slot cells) 0 to told more) c.len-to.ensures
+    (subst (λ key. TellsSpan key false (flags slot cells) 0 c.len-to.result told more) shared tells))
+    (subst (λ to. AddsRuns (record { selects = false; name = name }) 0 to told more) c.len-to.ensures
+    (subst (λ key. AddsRuns key 0 c.len-to.result told more) shared runs))

@@ -20,6 +20,7 @@ loop-name-preserved g c = λ seats seated.
 
 pub returns : goal.returns
 returns g c = λ seats seated.
-    (subst (λ words. AreGone seats c.args.tags.now (g.S.TextStore.content c.args.store.now).cells (texts_of words)
-    c.loop-name.seen c.loop-name.told)
-    (take_all c.loop-name.name-index c.args.names.now c.loop-name-test.false) (c.loop-name.invariant seats seated)).tells
+    let gone = subst (λ words. AreGone seats c.args.tags.now (g.S.TextStore.content c.args.store.now).cells
+    (texts_of words) c.loop-name.seen c.loop-name.told)
+    (take_all c.loop-name.name-index c.args.names.now c.loop-name-test.false) (c.loop-name.invariant seats seated) in
+    (gone.tells, gone.gapped)

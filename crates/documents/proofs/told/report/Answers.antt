@@ -1,7 +1,7 @@
-use Rattle.documents.proofs.Common.{◌≡◌, ◌++◌, true, ap, ap₂, sym, subst, ◌∙◌, true≢false, key_pairs, run_changes}
-use Rattle.documents.proofs.Common.{slot_changes, false, KnowsDelta, lost_run, option_map, Some, box_value}
-use Rattle.documents.proofs.DeltaLaws.{delta-tells, lost_changes}
-use Rattle.documents.proofs.told.report.Goals.{in-Some-lost+in_ok-keys+in_ok-push_run, in_default-lost}
+use Rattle.documents.proofs.Common.{[], ◌∷◌, true, ap, sym, subst, ◌∙◌, true≢false, key_pairs, false, KnowsDelta}
+use Rattle.documents.proofs.Common.{lost_run, option_map, Some, box_value, TellsRuns, AreRising}
+use Rattle.documents.proofs.DeltaLaws.{delta-tells, TellsLost}
+use Rattle.documents.proofs.told.report.Goals.{in-Some-lost+in_ok-push_runs, in_default-lost}
 use Rattle.documents.proofs.told.report.Goals as goal
 
 pub returns-in_default : goal.returns-in_default
@@ -16,17 +16,22 @@ returns g c = λ actions cells knows.
     let pairs = key_pairs seats table.tags in
     let delta = c.in-Some.field-0 in
     let old = (g.S.TextStore.content c.args.store.now).cells in
+    let between = c.match-lost.list in
     let is = (subst (KnowsDelta true actions old cells) c.in-Some.is knows).1 in
-    let lost : c.match-lost.list ≡ lost_changes pairs (lost_run delta) = elim c.match-lost.branch [
-      | in-Some-lost+in_ok-keys+in_ok-push_run w ↦
-          let run = w.into_inner-run.result in
-          w.list-is ∙ w.in_ok-push_run.ensures
-          ∙ ap₂ (λ front ks. front ++ run_changes run.from run.to false ks) c.new-list.ensures
-          (w.deref.ensures.value ∙ w.in_ok-keys.ensures)
-          ∙ ap (lost_changes pairs) (ap Some w.into_inner-run.ensures ∙ sym (ap (option_map box_value) w.in-Some-lost.is))
-      | in_default-lost w ↦ w.list-is ∙ c.new-list.ensures ∙ ap (lost_changes pairs) (sym (ap (option_map box_value) w.in_default-lost.is))
+    let lost : TellsLost pairs (lost_run delta) between = elim c.match-lost.branch [
+      | in-Some-lost+in_ok-push_runs w ↦
+          let run = w.into_inner.result in
+          subst (λ lost. TellsLost pairs lost between)
+          (ap Some w.into_inner.ensures ∙ sym (ap (option_map box_value) w.in-Some-lost.is))
+          (λ rising. subst (TellsRuns pairs false (run ∷ []) []) (sym w.list-is)
+          (subst (λ told. TellsRuns pairs false (run ∷ []) told w.push_runs.new.told) c.new-list.ensures
+          (w.in_ok-push_runs.ensures rising)))
+      | in_default-lost w ↦
+          subst (λ lost. TellsLost pairs lost between) (sym (ap (option_map box_value) w.in_default-lost.is))
+          (w.list-is ∙ c.new-list.ensures)
     ] in
-    delta-tells seats table c.requires.seated c.requires.sound actions old cells delta
-    (record { changes = c.in_ok-changes.changes; tags = c.push_runs.new.told }) is
-    c.in_ok-changes.ensures.changes c.in_ok-changes.ensures.tells
-    (c.in_ok-push_runs.ensures ∙ ap₂ (λ front runs. front ++ slot_changes pairs runs) lost c.deref-2.ensures.value)
+    delta-tells seats table c.requires.seated c.requires.sound actions old cells delta between
+    (record { changes = c.in_ok-changes.changes; tags = c.push_runs-2.new.told }) is c.in_ok-changes.ensures.changes
+    c.in_ok-changes.ensures.tells lost
+    (subst (λ runs. AreRising 0 runs → TellsRuns pairs true runs between c.push_runs-2.new.told) c.deref.ensures.value
+    c.in_ok-push_runs-2.ensures)

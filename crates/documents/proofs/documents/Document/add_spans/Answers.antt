@@ -73,7 +73,7 @@ returns-in-Ok-clause-told g c = λ follows.
     (foretells-added limits document widget name c.args.places.now c.in_ok-spans.spans.items c.in_ok-tags.tags
     c.in_ok-spans.ensures.value
     (subst (λ spans. TellsTags c.in_ok-tags.tags document.cells (with_tag (key_of widget name) true spans document.cells))
-    c.deref.ensures.value (c.in_ok-tags.ensures follows))))
+    c.deref.ensures.value (c.in_ok-tags.ensures.tells follows)) c.in_ok-tags.ensures.gapped))
 
 -- nothing is left of what was refused
 back : (g : Over) (c : After-truncate g)

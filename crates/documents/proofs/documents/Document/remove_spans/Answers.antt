@@ -60,4 +60,4 @@ returns-clause-told g c = λ follows.
     (sits seat stands c.number-number.ensures.value) name c.args.places.now c.in_ok-spans.spans.items
     c.in_ok-tags.tags c.in_ok-spans.ensures.value c.in_ok-spans.ensures.fit
     (subst (λ spans. TellsTags c.in_ok-tags.tags document.cells (with_tag (key_of widget name) false spans document.cells))
-    c.deref.ensures.value (c.in_ok-tags.ensures follows))))
+    c.deref.ensures.value (c.in_ok-tags.ensures.tells follows)) c.in_ok-tags.ensures.gapped))

@@ -1,7 +1,8 @@
 use Rattle.documents.proofs.Common.{◌≡◌, ◌+◌, ◌≤◌, length, refl, sym, subst, ◌∙◌, chars, length-map, All-weaker, flags}
-use Rattle.documents.proofs.Common.{SpanFits, Span, KeyedCell, widget_at, with_tag, parts_of, Stands, key_of}
+use Rattle.documents.proofs.Common.{SpanFits, Span, KeyedCell, widget_at, with_tag, parts_of, Stands, key_of, AreGapped}
 use Rattle.documents.proofs.Common.{TellsSpans, TellsTags, flags_of}
 use Rattle.edit_ops.specs.Deletions.{AreApart}
+use Rattle.documents.proofs.AddedRunLaws.{gapped-alone}
 use Rattle.documents.proofs.PartsLaws.{sits}
 use Rattle.documents.proofs.SpanToldLaws.{runs-told, seen-flags, seen-named, seen-none}
 use Rattle.documents.proofs.documents.Document.span_tags.Goals.{in-Some+in_ok-push_spans-in-Some}
@@ -9,8 +10,8 @@ use Rattle.documents.proofs.documents.Document.span_tags.Goals.{in-None+in_ok-pu
 use Rattle.std.specs.FinSet as set
 use Rattle.documents.proofs.documents.Document.span_tags.Goals as goal
 
-pub returns : goal.returns
-returns g c = λ follows.
+pub returns-clause-tells : goal.returns-clause-tells
+returns-clause-tells g c = λ follows.
     let old = c.self.inside in
     let document = c.args.self.now in
     let parts = parts_of g.S.TextStore.content old in
@@ -39,12 +40,12 @@ returns g c = λ follows.
           (seen-flags parts document place slot stands seat name tag w.in-Some.ensures.value) c.new-told.ensures
           (subst (λ k. TellsSpans k on found runs c.new-told.result told) is
           (subst (λ ss. TellsSpans c.in_ok-key.key on found ss c.new-told.result told) w.deref.ensures.value
-          w.in_ok-push_spans-in-Some.ensures)))
+          w.in_ok-push_spans-in-Some.ensures.tells)))
       | in-None+in_ok-push_whole-in-None w ↦
           let found = flags_of key document.cells in
           let told = w.push_whole.new.self in
           let flagged = length-map document.cells (λ (cell : KeyedCell). set.contains cell.keys key) in
-          let tells = w.in_ok-push_whole-in-None.ensures found
+          let tells = w.in_ok-push_whole-in-None.ensures.tells found
           (subst (AreApart (length found + 1)) (sym w.deref-in-None.ensures.value)
           (subst (λ n. AreApart (n + 1) runs) (sym flagged) apart))
           (seen-none parts document place slot stands seat name w.in-None.ensures.value) in
@@ -54,4 +55,20 @@ returns g c = λ follows.
           (subst (λ k. TellsSpans k on found runs c.new-told.result told) is
           (subst (λ ss. TellsSpans c.in_ok-key.key on found ss c.new-told.result told) w.deref-in-None.ensures.value
           tells)))
+    ]
+
+pub returns-clause-gapped : goal.returns-clause-gapped
+returns-clause-gapped g c =
+    let long = length c.args.self.now.cells in
+    let key = c.in_ok-key.key in
+    elim c.match-find_tag.branch [
+      | in-Some+in_ok-push_spans-in-Some w ↦
+          subst AreGapped (sym w.told-is) (gapped-alone key 0 (length (g.S.TextStore.content c.self.inside.text.store).cells)
+          c.new-told.result w.push_spans.new.self c.new-told.ensures w.in_ok-push_spans-in-Some.ensures.runs)
+      | in-None+in_ok-push_whole-in-None w ↦
+          subst AreGapped (sym w.told-is) (gapped-alone key 0 long c.new-told.result w.push_whole.new.self
+          c.new-told.ensures (w.in_ok-push_whole-in-None.ensures.runs long
+          (subst (AreApart (long + 1)) (sym w.deref-in-None.ensures.value) (c.in_ok-runs.ensures.apart long
+          (All-weaker (SpanFits long) (λ (span : Span). span.to ≤ long) (λ span fits. fits.within) c.args.spans.now
+          c.requires.fit)))))
     ]

@@ -1,7 +1,10 @@
-use Rattle.documents.proofs.Common.{take, flags, TellsSpans}
+use Rattle.documents.proofs.Common.{drop, length, take, flags, TellsSpans}
+use Rattle.documents.proofs.AddedRunLaws.{AddsDownTo}
 use Rattle.documents.proofs.tag_lists.TagList.push_spans.Given as goal
 
 abbrev pub invariant-loop-span : goal.invariant-loop-span
-invariant-loop-span g l =
-    TellsSpans l.key l.on (flags l.slot.0 (g.S.TextStore.content l.store).cells) (take l.span-index l.spans) l.fn.self
-    l.self
+invariant-loop-span g l = record {
+  told : TellsSpans l.key l.on (flags l.slot.0 (g.S.TextStore.content l.store).cells) (take l.span-index l.spans)
+      l.fn.self l.self;
+  runs : AddsDownTo l.key (length (g.S.TextStore.content l.store).cells) (drop l.span-index l.spans) l.fn.self l.self;
+}

@@ -1,4 +1,5 @@
 use Rattle.documents.proofs.Common.{◌≤◌, ◌-◌, flags, TellsSpan}
+use Rattle.documents.proofs.AddedRunLaws.{AddsUpTo}
 use Rattle.documents.proofs.tag_lists.TagList.push_unlike.Given as goal
 
 abbrev pub invariant-loop-at : goal.invariant-loop-at
@@ -6,6 +7,8 @@ invariant-loop-at g l = record {
   above : l.span.from ≤ l.at;
   below : l.at ≤ l.span.to;
   told : TellsSpan l.key l.on (flags l.slot.0 (g.S.TextStore.content l.store).cells) l.span.from l.at l.fn.self l.self;
+  runs : AddsUpTo l.key l.on (flags l.slot.0 (g.S.TextStore.content l.store).cells) l.span.from l.at l.span.to l.fn.self
+      l.self;
 }
 
 abbrev pub decreases-loop-at : goal.decreases-loop-at
