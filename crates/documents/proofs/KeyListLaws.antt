@@ -6,6 +6,7 @@ use Rattle.documents.proofs.Common.{stood_at, Tag, sel, slots_of, Slots, SlotRun
 use Rattle.documents.proofs.Common.{take-found, Key, is_shared, seat_pair, tag_pair, HoldsSlots, TellsRuns, TagChange}
 use Rattle.documents.proofs.Common.{slice_get, All-weaker, or_left, or_right, eq_by_cmp, key_cmp, All-more}
 use Rattle.std.specs.Str.{chars}
+use Rattle.documents.proofs.Common.{nat_cmp, true≢false}
 use Rattle.name_list.specs.Names.{names_of}
 use Rattle.tag_table.specs.Tags.{names_of as tag_names}
 use Rattle.text_model.specs.SlotSets.{differing}
@@ -59,6 +60,15 @@ held-more runs at run slots both more now within is common fresh made holds = λ
     (take at runs) (holds slot))
     (λ there. either ∙ or_right had (set.contains run.slots slot)
     (ap (λ (r : SlotRun). set.contains r.slots slot) is ∙ there))
+
+-- a run without slots adds none
+pub held-empty : (runs : List SlotRun) (at : ℕ) (run : SlotRun) (slots : Slots) → at < length runs →
+    run ≡ get_or runs at run → run.slots ≡ set.empty → HoldsSlots (take at runs) slots
+    → HoldsSlots (take (at + 1) runs) slots
+held-empty runs at run slots within is none holds = λ slot.
+    All-more (λ (r : SlotRun). set.contains r.slots slot ≡ true → set.contains slots slot ≡ true) runs at run within
+    (holds slot) (λ there. absurd (true≢false (sym there ∙ ap (λ (r : SlotRun). set.contains r.slots slot) (sym is)
+    ∙ ap (λ ss. set.contains ss slot) none ∙ set.contains-empty nat_cmp slot)))
 
 -- what stands at a place has the name and the number that stand there
 named-at : {A B C : Type 0} (name : A → B) (number : A → C) (xs : List A) (place : ℕ) (n : B) (k : C) →

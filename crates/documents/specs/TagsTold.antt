@@ -49,7 +49,7 @@ abbrev pub Turns : Key → Bool → List KeyedCell → List KeyedCell → ℕ �
 Turns key on old new at = (flag_at (flags_of key old) at ≡ not on) × (flag_at (flags_of key new) at ≡ on)
 
 -- A change of a tag is a whole run: each of its characters gets the key, or loses it, as the change says, and neither
--- the character before it nor the one after it does. No character is at the end of the text or beyond it.
+-- the character before the run nor the one after it does, if there is one.
 pub record IsTagRun (old new : List KeyedCell) (change : TagChange) : Type 0 where
   pub some : change.from < change.to
   pub turned : (at : ℕ) → change.from ≤ at → at < change.to → Turns change.key change.on old new at

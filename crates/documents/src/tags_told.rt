@@ -39,8 +39,10 @@ fn slots_in(runs: &[SlotRun]) -> TagSet
 {
     let mut slots = TagSet::empty();
     for run in runs {
-        let more = run.slots.differing(&run.slots.common(&slots));
-        slots = slots.differing(&more);
+        if !run.slots.is_empty() {
+            let more = run.slots.differing(&run.slots.common(&slots));
+            slots = slots.differing(&more);
+        }
     }
     slots
 }
