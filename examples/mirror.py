@@ -1,23 +1,29 @@
 #!/usr/bin/env python3
-"""Copies of a text that follow it by its changes alone: a plain string, and a text of another world with its tags.
+"""Copies of a text that follow it by its reports alone: a string, and a text of another world with its tags and marks.
 
     python3 examples/mirror.py        where the package is installed by `pip install .`
 """
 
-from tktext import Change, TagChange, Text
+from tktext import Change, MarkChange, TagChange, Text
 
 
 class Mirror:
     """A string and a text that become what another text is, and what follows it later: its first view is read once."""
 
     def __init__(self, text: Text) -> None:
+        self.name = str(text)
         self.string = text.get("1.0", "end")
         self.copy = Text()
         self.copy.insert("1.0", self.string[:-1])
         for tag in text.tag_names():
             for start, end in ranges_of(text, tag):
                 self.copy.tag_add(tag, start, end)
-        self.stops = [text.on_change(self.follow), text.on_tags(self.follow_tags)]
+        for _, mark, place in text.dump("1.0", "end", mark=True):
+            self.copy.mark_set(mark, place)
+            self.copy.mark_gravity(mark, text.mark_gravity(mark))
+        self.stops = [
+            text.on_change(self.follow), text.on_tags(self.follow_tags), text.on_marks(self.follow_marks),
+        ]
 
     def stop(self) -> None:
         for stop in self.stops:
@@ -44,6 +50,17 @@ class Mirror:
                 # So a copy has no more tags than its text, where there may be only so many.
                 self.copy.tag_delete(change.tag)
 
+    def follow_marks(self, changes: "list[MarkChange]") -> None:
+        # The copy's changes move its marks as the text's do, so only what they don't do is reported.
+        for change in changes:
+            if change.widget not in ("", self.name):
+                continue
+            if change.new is None:
+                self.copy.mark_unset(change.mark)
+            else:
+                self.copy.mark_set(change.mark, f"1.0 + {change.new.offset} chars")
+                self.copy.mark_gravity(change.mark, change.new.gravity)
+
 
 def ranges_of(text: Text, tag: str) -> "list[tuple[str, str]]":
     """Where the ranges of a tag begin and end."""
@@ -60,6 +77,8 @@ if __name__ == "__main__":
     text.edit_undo()
     peer.delete("2.0", "2.2")
     peer.tag_add("bold", "1.0", "end")
+    peer.mark_set("here", "1.2")
     text.insert("2.1", "-")
     print(repr(mirror.string), mirror.copy.get("1.0", "end") == text.get("1.0", "end"))
     print(ranges_of(text, "bold"), ranges_of(mirror.copy, "bold"))
+    print(text.index("here"), mirror.copy.index("here"))

@@ -93,9 +93,11 @@ size_t tktext_said_line(tktext *handle, char **line, size_t *room);
 size_t tktext_word(tktext *handle, size_t word, uint8_t *room, size_t size);
 
 /* Carries out a command as tktext_call does, and keeps a report of what it changed of the text that its widget shows;
-   tktext_take_report moves it out.  The report is complete before anything changes, so after TKTEXT_NO_MEMORY all is as
-   it was.  After any other code than TKTEXT_ANSWER there is nothing to report. */
-int32_t tktext_call_told(tktext *handle, const uint8_t *bytes, size_t size, const size_t *lengths, size_t count);
+   tktext_take_report moves it out.  The report has marks only if `marks` is true.  It is complete before anything
+   changes, so after TKTEXT_NO_MEMORY all is as it was.  After any other code than TKTEXT_ANSWER there is nothing to
+   report. */
+int32_t tktext_call_told(tktext *handle, bool marks, const uint8_t *bytes, size_t size, const size_t *lengths,
+                         size_t count);
 
 /* A report: what one command changed, in memory of its own.  It begins as TKTEXT_EMPTY_REPORT, and is dropped once by
    tktext_report_drop; what holds of a handle holds of it too.  It has three lists:
@@ -106,9 +108,13 @@ int32_t tktext_call_told(tktext *handle, const uint8_t *bytes, size_t size, cons
    - Changes of tags: a tag was added to a range of characters of which none had it, or removed from one of which each
      had it.  Applied in order after the changes of the text, whose new characters have no tag yet, they give the new
      characters with their tags.  Each range is as long as it can be.
-   - Marks: the names of those that `mark set` or `mark unset` moved, so that each is at another offset of the text now,
-     is new, or is gone.  An edit of the text names none, though it moves marks with the text, and undo, redo and
-     replace move `insert`: after these, ask for the marks. */
+   - Marks of the text, which are `insert` and `current` of each of its widgets, and the shared ones.  The list has each
+     mark, once, that isn't where the changes of the text alone take it, has another gravity, is new, or is gone.  Any
+     other mark is where they take it.  Each change takes a mark by its deletion, and then by its insertion:
+     - A mark after the deleted characters moves left by their number; one among them moves to the offset of the change.
+     - Then a mark after that offset moves right by the number of inserted characters, and so does a mark at that offset
+       if its gravity is right.
+     `destroy` isn't a command of a widget, so the marks of a destroyed widget aren't reported. */
 typedef struct tktext_report {
     bool full;
     struct tktext_kept kept;
@@ -128,7 +134,8 @@ int32_t tktext_take_report(tktext *handle, tktext_report *report);
 /* Drops the report, if there is one, and leaves it TKTEXT_EMPTY_REPORT. */
 void tktext_report_drop(tktext_report *report);
 
-/* The calls below read a report, and change nothing.  Of an empty one each number is 0, and each text is empty. */
+/* The calls below read a report, and change nothing.  Of an empty one each number is 0, and each text is empty; a mark
+   isn't there. */
 
 /* Returns the number of changes of the text. */
 size_t tktext_told(tktext_report *report);
@@ -184,9 +191,35 @@ int32_t tktext_told_tag_on(tktext_report *report, size_t change);
 /* Returns the number of marks. */
 size_t tktext_told_marks(tktext_report *report);
 
-/* Copies the name of one of these marks, counted from 0, as tktext_said does; no text if there is no such mark.
-   `insert` and `current` are those of the command's own widget. */
+/* Copies the name of one of these marks, counted from 0, as tktext_said does; no text if there is no such mark. */
 size_t tktext_told_mark(tktext_report *report, size_t mark, uint8_t *room, size_t size);
+
+/* Copies the name of the widget whose `insert` or `current` that mark is in the same way; no text for any other mark,
+   which all peers share. */
+size_t tktext_told_mark_widget(tktext_report *report, size_t mark, uint8_t *room, size_t size);
+
+/* The times for which the two calls below return the position of a mark.  A new mark isn't there before the command,
+   and one that is gone isn't there after it. */
+enum {
+    TKTEXT_BEFORE = 0, /* before the command */
+    TKTEXT_AFTER = 1   /* after the command; so is any greater number */
+};
+
+/* The offset of a mark that isn't there. */
+#define TKTEXT_NO_PLACE SIZE_MAX
+
+/* Returns the offset of a mark, in characters from the start of the text, whatever part of it a widget shows;
+   TKTEXT_NO_PLACE if the mark isn't there, or there is no such mark. */
+size_t tktext_told_mark_at(tktext_report *report, size_t mark, size_t end);
+
+/* The gravity of a mark: on which side of text that is inserted at the mark it is then. */
+enum {
+    TKTEXT_RIGHT = 0, /* after the text */
+    TKTEXT_LEFT = 1   /* before the text */
+};
+
+/* Returns the gravity of a mark; -1 if the mark isn't there, or there is no such mark. */
+int32_t tktext_told_mark_gravity(tktext_report *report, size_t mark, size_t end);
 
 /* Whether `edit undo` would find something to undo in the text that a widget shows, by the widget's name in UTF-8, as Tk's
    `edit canundo` tells: 1 or 0, and -1 where no widget has the name.  Nothing changes, what was said last neither. */
@@ -208,7 +241,7 @@ void tktext_finish(tktext *handle);
 int32_t tktext_next(tktext *handle);
 
 /* Carries out the next command as tktext_next does, and keeps a report as tktext_call_told does. */
-int32_t tktext_next_told(tktext *handle);
+int32_t tktext_next_told(tktext *handle, bool marks);
 
 /* The exit status that the program has after so much of the script: 2 after a script fault, 1 after a command that was
    refused, else 0; 255 of an empty handle. */

@@ -4,7 +4,7 @@
        tktext::destroy ?W ..?             destroys widgets, and deletes their commands, also renamed ones
        tktext::onchange W ?prefix?        follows the changes of the text that W shows
        tktext::ontags W ?prefix?          follows the changes of its tags
-       tktext::onmarks W ?prefix?         follows the marks that `mark set` and `mark unset` move there
+       tktext::onmarks W ?prefix?         follows its marks
 
    `W peer create V` makes a command V too.  Deleting the command of a widget destroys the widget.
 
@@ -16,7 +16,10 @@
    - of changes of tags, each a list {tag from to on}: the tag was added (1) to the characters between two offsets, or
      removed from them (0).  Applied in order after the changes of the text, whose new characters have no tag yet, they
      give the new tags.  `sel` is W's own.
-   - of names of marks, `insert` and `current` only where they are W's own.
+   - of marks, each a list {mark widget old new}: a mark that is elsewhere than the changes of the text take it, has
+     another gravity, is new, or is gone.  `widget` is the name of the widget whose `insert` or `current` it is, or
+     empty.  `old` and `new` are lists {offset gravity}: where the mark was before the command, and is after it; one is
+     empty if the mark is new, or gone.  The marks of a destroyed widget aren't reported.
    Offsets are from the start of the text, in characters as Tcl counts them: one above U+FFFF counts as two in Tcl 8.6.
    An empty prefix ends this; without a prefix the command returns the one that is set.
 
@@ -74,7 +77,7 @@ typedef struct World {
 typedef struct Document {
     /* How many hold the document: its widgets, and its reports in the queue. */
     int holders;
-    int followers;
+    int followers, mark_followers;
     /* Whether a word of its commands had a wide character: one above U+FFFF, which Tcl 8.6 counts as two. */
     int has_wide;
     /* The offsets of its wide characters, in characters of the core, in the text as it was last reported. */
@@ -112,8 +115,8 @@ struct Report {
     tktext_report changes;
     Report *next;
     Document *document;
-    /* Which of the world's reports it is, and the number of the widget whose command it was. */
-    uint64_t number, widget;
+    /* Which of the world's reports it is. */
+    uint64_t number;
     /* Whether one of its texts was found to be one that Tcl can't hold. */
     int is_too_long;
 };
@@ -395,7 +398,7 @@ static int make_ready(World *world)
     Report *report = malloc(sizeof *report);
     if (report == NULL)
         return 0;
-    *report = (Report){TKTEXT_EMPTY_REPORT, NULL, NULL, 0, 0, 0};
+    *report = (Report){TKTEXT_EMPTY_REPORT, NULL, NULL, 0, 0};
     if (tktext_report_new(&report->changes) != TKTEXT_ANSWER) {
         free(report);
         return 0;
@@ -404,41 +407,40 @@ static int make_ready(World *world)
     return 1;
 }
 
-/* Moves what a widget's command changed out of the world, into the queue of reports. */
-static void queue_report(Widget *widget)
+/* Moves what a command changed of a document out of the world, into the queue of reports. */
+static void queue_report(World *world, Document *document)
 {
-    World *world = widget->world;
     Report *report = world->ready;
     tktext_report *changes = &report->changes;
     tktext_take_report(&world->handle, changes);
     if (tktext_told(changes) + tktext_told_tags(changes) + tktext_told_marks(changes) == 0)
         return;
     world->ready = NULL;
-    report->document = widget->document;
-    report->document->holders++;
+    report->document = document;
+    document->holders++;
     report->number = ++world->reports_made;
-    report->widget = widget->number;
     *world->end = report;
     world->end = &report->next;
 }
 
-/* Carries out a widget's command, and queues a report of it.  The report is allocated before anything changes. */
-static int32_t call_reported(Widget *widget, const uint8_t *bytes, size_t size, const size_t *lengths, size_t count)
+/* Carries out a command of a widget of a document, and queues a report of it.  The report is allocated before anything
+   changes. */
+static int32_t call_reported(World *world, Document *document, const uint8_t *bytes, size_t size, const size_t *lengths,
+                             size_t count)
 {
-    World *world = widget->world;
     if (!make_ready(world))
         return TKTEXT_NO_MEMORY;
-    int32_t code = tktext_call_told(&world->handle, bytes, size, lengths, count);
+    int32_t code = tktext_call_told(&world->handle, document->mark_followers > 0, bytes, size, lengths, count);
     if (code == TKTEXT_ANSWER)
-        queue_report(widget);
+        queue_report(world, document);
     return code;
 }
 
 /* What `call` returns besides the library's codes, with nothing changed. */
 #define TOO_LONG (-1)
 
-/* Carries out a command of a widget; or, with NULL, one that changes no text. */
-static int32_t call(World *world, Widget *widget, const Command *command)
+/* Carries out a command of a widget of a document; or, with NULL, one that is no widget's. */
+static int32_t call(World *world, Document *document, const Command *command)
 {
     uint8_t fixed[FIXED_BYTES], *bytes = fixed;
     size_t fixed_lengths[MOST_FIXED], *lengths = fixed_lengths;
@@ -452,10 +454,10 @@ static int32_t call(World *world, Widget *widget, const Command *command)
     int32_t code = TKTEXT_NO_MEMORY;
     if (lengths != NULL && bytes != NULL) {
         size_t size = join((char *)bytes, lengths, command);
-        if (widget != NULL)
-            note_wide(widget->document, bytes, size, room);
-        if (widget != NULL && is_reported(widget->document))
-            code = call_reported(widget, bytes, size, lengths, count);
+        if (document != NULL)
+            note_wide(document, bytes, size, room);
+        if (document != NULL && is_reported(document))
+            code = call_reported(world, document, bytes, size, lengths, count);
         else
             code = tktext_call(&world->handle, bytes, size, lengths, count);
     }
@@ -465,9 +467,9 @@ static int32_t call(World *world, Widget *widget, const Command *command)
 }
 
 /* The same, with the answer or an error as the interpreter's result; says whether the command was carried out. */
-static int give(Tcl_Interp *interp, World *world, Widget *widget, const Command *command, int *is_done)
+static int give(Tcl_Interp *interp, World *world, Document *document, const Command *command, int *is_done)
 {
-    int32_t code = call(world, widget, command);
+    int32_t code = call(world, document, command);
     *is_done = code == TKTEXT_ANSWER;
     if (code == TKTEXT_ANSWER)
         return said(interp, world, code);
@@ -646,10 +648,31 @@ static Tcl_Obj *tag_change_of(Report *report, size_t change)
     return Tcl_NewListObj(5, parts);
 }
 
-/* The name of a mark; NULL if that can't be made. */
-static Tcl_Obj *mark_of(Report *report, size_t mark)
+/* Where a mark is before or after the command: {offset gravity}, or an empty list if it isn't there. */
+static Tcl_Obj *place_of(Report *report, size_t mark, size_t end)
 {
-    return reported_text(report, tktext_told_mark, mark);
+    tktext_report *changes = &report->changes;
+    size_t at = tktext_told_mark_at(changes, mark, end);
+    if (at == TKTEXT_NO_PLACE)
+        return Tcl_NewListObj(0, NULL);
+    int is_left = tktext_told_mark_gravity(changes, mark, end) == TKTEXT_LEFT;
+    Tcl_Obj *parts[] = {number_of(in_tcl(report->document, at)), Tcl_NewStringObj(is_left ? "left" : "right", -1)};
+    return Tcl_NewListObj(2, parts);
+}
+
+/* A mark as it is before the command, as a list {mark widget old}; NULL if that can't be made. */
+static Tcl_Obj *mark_of(Report *report, size_t index)
+{
+    Tcl_Obj *mark = reported_text(report, tktext_told_mark, index);
+    if (mark == NULL)
+        return NULL;
+    Tcl_Obj *widget = reported_text(report, tktext_told_mark_widget, index);
+    if (widget == NULL) {
+        Tcl_DecrRefCount(mark);
+        return NULL;
+    }
+    Tcl_Obj *parts[] = {mark, widget, place_of(report, index, TKTEXT_BEFORE)};
+    return Tcl_NewListObj(3, parts);
 }
 
 /* A list with one more element.  Without an element there is no list either. */
@@ -692,16 +715,14 @@ static int is_word(Tcl_Obj *word, const char *text)
     return strcmp(Tcl_GetString(word), text) == 0;
 }
 
-/* Of the names of marks those that all peers share. */
-static Tcl_Obj *shared_of(Tcl_Obj *marks)
+/* Adds to each mark of a list where it is after the command. */
+static void add_new_places(Report *report, Tcl_Obj *marks)
 {
     int count;
-    Tcl_Obj **all, *shared = Tcl_NewListObj(0, NULL);
+    Tcl_Obj **all;
     Tcl_ListObjGetElements(NULL, marks, &count, &all);
     for (int number = 0; number < count; number++)
-        if (!is_word(all[number], "insert") && !is_word(all[number], "current"))
-            Tcl_ListObjAppendElement(NULL, shared, all[number]);
-    return shared;
+        Tcl_ListObjAppendElement(NULL, all[number], place_of(report, (size_t)number, TKTEXT_AFTER));
 }
 
 /* Of changes of tags those that concern a widget, without the name that is first in each. */
@@ -736,15 +757,18 @@ static int is_followed(World *world, int way, const Report *report)
     return widget != NULL;
 }
 
-/* Makes the lists of a report, those that nobody gets as empty ones, and returns whether all could be made. */
+/* Makes the lists of a report, those that nobody gets as empty ones, and returns whether all could be made.  The old
+   offsets are made before the changes move the wide characters, and the others after that. */
 static int make_lists(World *world, Report *report, Tcl_Obj *lists[])
 {
     size_t tags = is_followed(world, TAGS, report) ? tktext_told_tags(&report->changes) : 0;
     size_t marks = is_followed(world, MARKS, report) ? tktext_told_marks(&report->changes) : 0;
     int is_whole = 1;
+    lists[MARKS] = list_others(report, marks, mark_of);
     lists[CHANGES] = list_changes(report, is_followed(world, CHANGES, report));
     lists[TAGS] = list_others(report, tags, tag_change_of);
-    lists[MARKS] = list_others(report, marks, mark_of);
+    if (lists[MARKS] != NULL)
+        add_new_places(report, lists[MARKS]);
     for (int way = 0; way < WAYS; way++)
         if (lists[way] != NULL)
             Tcl_IncrRefCount(lists[way]);
@@ -754,11 +778,9 @@ static int make_lists(World *world, Report *report, Tcl_Obj *lists[])
 }
 
 /* What a widget gets of the lists of a report. */
-static Tcl_Obj *list_for(Widget *widget, int way, const Report *report, Tcl_Obj *const lists[])
+static Tcl_Obj *list_for(Widget *widget, int way, Tcl_Obj *const lists[])
 {
-    if (way == TAGS)
-        return tags_for(lists[TAGS], widget);
-    return way == MARKS && widget->number != report->widget ? shared_of(lists[MARKS]) : lists[way];
+    return way == TAGS ? tags_for(lists[TAGS], widget) : lists[way];
 }
 
 /* Calls a prefix with a list, unless that is empty. */
@@ -805,7 +827,7 @@ static void call_followers(Tcl_Interp *interp, World *world, const Report *repor
     Turn turn = {UINT64_MAX, 0};
     Widget *widget;
     while (!Tcl_InterpDeleted(interp) && (widget = next_turn(world, report, &turn)) != NULL) {
-        Tcl_Obj *list = list_for(widget, turn.way, report, lists);
+        Tcl_Obj *list = list_for(widget, turn.way, lists);
         Tcl_IncrRefCount(list);
         call_prefix(interp, widget->followers[turn.way].prefix, list);
         Tcl_DecrRefCount(list);
@@ -862,7 +884,9 @@ static int deliver_all(Tcl_Interp *interp, World *world, int result)
 static void set_follower(Widget *widget, int way, Tcl_Obj *prefix)
 {
     Tcl_Obj *old = widget->followers[way].prefix;
-    widget->document->followers += (prefix != NULL) - (old != NULL);
+    int added = (prefix != NULL) - (old != NULL);
+    widget->document->followers += added;
+    widget->document->mark_followers += way == MARKS ? added : 0;
     if (prefix != NULL)
         Tcl_IncrRefCount(prefix);
     if (old != NULL)
@@ -911,9 +935,13 @@ static int run_widget(void *data, Tcl_Interp *interp, int count, Tcl_Obj *const 
         set_fault_code(interp, Tcl_GetObjResult(interp));
         return TCL_ERROR;
     }
-    if (count > 3 && is_word(words[1], "peer") && is_word(words[2], "create"))
-        return make_widget(interp, world, widget->document, &command, words[3]);
-    return deliver_all(interp, world, give(interp, world, widget, &command, &is_done));
+    int makes_peer = count > 3 && is_word(words[1], "peer") && is_word(words[2], "create");
+    world->holders++;
+    int result = makes_peer ? make_widget(interp, world, widget->document, &command, words[3])
+                            : give(interp, world, widget->document, &command, &is_done);
+    result = deliver_all(interp, world, result);
+    let_go(world);
+    return result;
 }
 
 /* Deletes the command that a new one would stand in the place of; what its traces do is done then. */
@@ -949,7 +977,7 @@ static int make_widget(Tcl_Interp *interp, World *world, Document *document, con
     Widget *widget = malloc(sizeof *widget);
     if (widget == NULL)
         return fail_for_memory(interp);
-    int result = give(interp, world, NULL, command, &is_done);
+    int result = give(interp, world, document, command, &is_done);
     if (!is_done) {
         free(widget);
         return result;
@@ -968,7 +996,7 @@ static int make(void *data, Tcl_Interp *interp, int count, Tcl_Obj *const words[
     Document *document = malloc(sizeof *document);
     if (document == NULL)
         return fail_for_memory(interp);
-    *document = (Document){1, 0, 0, NULL, 0, 0};
+    *document = (Document){1, 0, 0, 0, NULL, 0, 0};
     Tcl_Obj *first = Tcl_NewStringObj("text", -1);
     Tcl_IncrRefCount(first);
     Command command = {first, count - 1, words + 1};

@@ -588,34 +588,82 @@ static void check_tags(void)
     check(tktext_told_tag_on(&report, count) == 0 && tktext_told_tag_widget(&report, count, tag, 4) == 0, "a tag too many");
 }
 
-/* What a call that reports left in its world, moved out: nothing of a refused command, and no change that is a no-op; no
-   marks of an edit of the text. */
-static void check_told(tktext *world, int32_t code)
+/* Where the changes of the text take a mark from an offset, by its gravity. */
+static size_t carried(size_t at, int32_t gravity)
+{
+    size_t count = tktext_told(&report);
+    for (size_t change = 0; change < count; change++) {
+        size_t from = tktext_told_at(&report, change), to = from + tktext_told_removed(&report, change);
+        at = at > to ? at - (to - from) : at > from ? from : at;
+        if (at > from || (at == from && gravity == TKTEXT_RIGHT)) {
+            uint8_t none[1];
+            size_t length = tktext_told_inserted(&report, change, none, 0);
+            uint8_t *text = block_of(length);
+            tktext_told_inserted(&report, change, text, length);
+            for (size_t byte = 0; byte < length; byte++)
+                at += (text[byte] & 0xc0) != 0x80;
+            free(text);
+        }
+    }
+    return at;
+}
+
+/* The marks: each with a name, of a widget if it is `insert` or `current`, and elsewhere than the changes of the text
+   take it, with another gravity, new, or gone. */
+static void check_marks(void)
+{
+    uint8_t name[8], widget[4];
+    size_t count = tktext_told_marks(&report);
+    for (size_t mark = 0; mark < count; mark++) {
+        size_t length = tktext_told_mark(&report, mark, name, sizeof name);
+        size_t owner = tktext_told_mark_widget(&report, mark, widget, sizeof widget);
+        int is_own = length == 6 ? memcmp(name, "insert", 6) == 0 : length == 7 && memcmp(name, "current", 7) == 0;
+        size_t old = tktext_told_mark_at(&report, mark, TKTEXT_BEFORE);
+        size_t new = tktext_told_mark_at(&report, mark, TKTEXT_AFTER);
+        int32_t was = tktext_told_mark_gravity(&report, mark, TKTEXT_BEFORE);
+        int32_t is = tktext_told_mark_gravity(&report, mark, TKTEXT_AFTER);
+        check((owner > 0) == is_own, "a mark of a widget's own");
+        check((old == TKTEXT_NO_PLACE) == (was == -1) && (new == TKTEXT_NO_PLACE) == (is == -1), "a gravity nowhere");
+        check(old != TKTEXT_NO_PLACE || new != TKTEXT_NO_PLACE, "a mark that neither was nor is");
+        check(was != is || new != carried(old, was), "a mark that goes along is told");
+    }
+    check(tktext_told_mark(&report, count, name, 4) == 0, "a mark too many");
+    check(tktext_told_mark_widget(&report, count, name, 4) == 0, "a mark too many");
+    check(tktext_told_mark_at(&report, count, in(3)) == TKTEXT_NO_PLACE, "a mark too many");
+    check(tktext_told_mark_gravity(&report, count, in(3)) == -1, "a mark too many");
+}
+
+/* What a call that reports left in its world, moved out: nothing of a refused command, no change that is a no-op, and
+   no marks unless these were asked for. */
+static void check_told(tktext *world, int32_t code, int marks)
 {
     uint8_t room[4];
     check(tktext_take_report(world, &report) == TKTEXT_ANSWER, "a report isn't moved");
-    size_t count = tktext_told(&report), tags = tktext_told_tags(&report), marks = tktext_told_marks(&report);
-    check(code == TKTEXT_ANSWER || count + tags + marks == 0, "a refused command tells of a change");
+    size_t count = tktext_told(&report);
+    check(code == TKTEXT_ANSWER || count + tktext_told_tags(&report) + tktext_told_marks(&report) == 0,
+          "a refused command tells of a change");
+    check(marks || tktext_told_marks(&report) == 0, "marks are told that nobody asks for");
     check_tags();
-    check(count == 0 || marks == 0, "an edit tells of marks");
+    check_marks();
     for (size_t at = 0; at < count; at++) {
         int takes_out = tktext_told_removed(&report, at) > 0, puts_in = tktext_told_inserted(&report, at, room, 4) > 0;
         check(takes_out || puts_in, "an idle change is told");
         check_ends(at, takes_out, puts_in);
     }
     check(tktext_told_at(&report, count) == 0 && tktext_told_inserted(&report, count, room, 4) == 0, "a change too many");
-    check(tktext_told_line(&report, count, in(4)) == 0 && tktext_told_mark(&report, marks, room, 4) == 0, "a place too many");
+    check(tktext_told_line(&report, count, in(4)) == 0, "a place too many");
 }
 
 static int32_t call(tktext *world, const struct command *command)
 {
-    int tells = in(2);
+    int tells = in(2), marks = in(2);
     uint8_t *bytes = copy_of(command->bytes, command->size);
     size_t *lengths = (size_t *)(void *)copy_of(command->lengths, command->count * sizeof *lengths);
-    int32_t code = (tells ? tktext_call_told : tktext_call)(world, bytes, command->size, lengths, command->count);
+    int32_t code = tells ? tktext_call_told(world, marks, bytes, command->size, lengths, command->count)
+                         : tktext_call(world, bytes, command->size, lengths, command->count);
     shared->calls++;
     if (tells)
-        check_told(world, code);
+        check_told(world, code, marks);
     free(bytes);
     free(lengths);
     return code;
@@ -661,13 +709,13 @@ static void feed(const uint8_t *bytes, size_t size, int is_refused)
 /* The next command of the script, which is this one; where a growth is refused for it, it is given by its words. */
 static int32_t take_turn(const struct command *command, int is_refused)
 {
-    int tells = in(2);
+    int tells = in(2), marks = in(2);
     if (is_refused)
         refuse(1 + below(12), in(2));
-    int32_t code = (tells ? tktext_next_told : tktext_next)(&by_script);
+    int32_t code = tells ? tktext_next_told(&by_script, marks) : tktext_next(&by_script);
     refuse_none();
     if (tells)
-        check_told(&by_script, code);
+        check_told(&by_script, code, marks);
     shared->calls++;
     if (!is_refused || code != TKTEXT_NO_MEMORY)
         return code;

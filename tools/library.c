@@ -240,7 +240,7 @@ static bool told_is(size_t at, size_t removed, const char *inserted)
 /* Carries out a command, and moves its report out of the world. */
 static int32_t call_told(tktext *world, const char *words, const size_t *lengths, size_t count)
 {
-    int32_t code = tktext_call_told(world, (const uint8_t *)words, strlen(words), lengths, count);
+    int32_t code = tktext_call_told(world, true, (const uint8_t *)words, strlen(words), lengths, count);
     tktext_take_report(world, &report);
     return code;
 }
@@ -248,7 +248,7 @@ static int32_t call_told(tktext *world, const char *words, const size_t *lengths
 /* The next command of the script, in the same way. */
 static int32_t next_told(tktext *world)
 {
-    int32_t code = tktext_next_told(world);
+    int32_t code = tktext_next_told(world, true);
     tktext_take_report(world, &report);
     return code;
 }
@@ -262,18 +262,10 @@ static bool end_is(size_t end, size_t line, size_t column, size_t bytes, size_t 
     return tktext_told_line(&report, 0, end) == line && tktext_told_column(&report, 0, end) == column
         && tktext_told_bytes(&report, 0, end) == bytes && tktext_told_units(&report, 0, end) == units;
 }
-/* Whether one mark was told, and it has this name. */
-static bool mark_is(const char *name)
-{
-    uint8_t room[8];
-    size_t length = tktext_told_mark(&report, 0, room, sizeof room);
-    return tktext_told_marks(&report) == 1 && length == strlen(name) && memcmp(room, name, length) == 0;
-}
 static void check_ends(void)
 {
-    uint8_t room[4];
     tktext world = TKTEXT_EMPTY;
-    check(end_is(TKTEXT_START, 0, 0, 0, 0) && tktext_told_marks(&report) == 0, "the ends that no world told");
+    check(end_is(TKTEXT_START, 0, 0, 0, 0), "the ends that no world told");
     tktext_new_greatest(&world);
     tktext_report_new(&report);
     tktext_call_words(&world, WORDS("text", ".t"));
@@ -286,15 +278,64 @@ static void check_ends(void)
     check(call_told(&world, ".tinsert1.1\xc3\xa9\xf0\x9f\x98\x80", LENGTHS(2, 6, 3, 6)) == TKTEXT_ANSWER
           && end_is(TKTEXT_NEW_END, 1, 3, 7, 4) && end_is(SIZE_MAX, 1, 3, 7, 4), "bytes and units");
     check(tktext_told_line(&report, 1, TKTEXT_START) == 0, "no end of no change");
-    check(call_told(&world, ".tmarksetm1.1", LENGTHS(2, 4, 3, 1, 3)) == TKTEXT_ANSWER && tktext_told(&report) == 0
-          && mark_is("m"), "a mark that is set");
-    check(call_told(&world, ".tmarksetm1.1", LENGTHS(2, 4, 3, 1, 3)) == TKTEXT_ANSWER && tktext_told_marks(&report) == 0, "a mark that stays");
-    check(call_told(&world, ".tmarkunsetnmm", LENGTHS(2, 4, 5, 1, 1, 1)) == TKTEXT_ANSWER && mark_is("m"), "a mark that goes");
-    check(call_told(&world, ".tinsert1.0x", LENGTHS(2, 6, 3, 1)) == TKTEXT_ANSWER && tktext_told_marks(&report) == 0, "marks go along untold");
-    check(tktext_told_mark(&report, 0, room, sizeof room) == 0, "no such mark");
     tktext_report_drop(&report);
     tktext_drop(&world);
 }
+
+/* Whether one of the marks is this one: its name, that of the widget whose own it is, and where it was and is. */
+static bool mark_is(size_t mark, const char *name, const char *widget, size_t old, size_t new)
+{
+    uint8_t room[8];
+    size_t length = tktext_told_mark(&report, mark, room, sizeof room);
+    bool named = length == strlen(name) && memcmp(room, name, length) == 0;
+    length = tktext_told_mark_widget(&report, mark, room, sizeof room);
+    return named && length == strlen(widget) && memcmp(room, widget, length) == 0
+        && tktext_told_mark_at(&report, mark, TKTEXT_BEFORE) == old
+        && tktext_told_mark_at(&report, mark, TKTEXT_AFTER) == new
+        && tktext_told_mark_at(&report, mark, SIZE_MAX) == new;
+}
+
+/* Whether a mark had one gravity, and has another; -1 where it wasn't there, or isn't. */
+static bool gravity_is(size_t mark, int32_t old, int32_t new)
+{
+    return tktext_told_mark_gravity(&report, mark, TKTEXT_BEFORE) == old
+        && tktext_told_mark_gravity(&report, mark, TKTEXT_AFTER) == new
+        && tktext_told_mark_gravity(&report, mark, SIZE_MAX) == new;
+}
+
+static void check_marks(void)
+{
+    const size_t none = TKTEXT_NO_PLACE;
+    tktext world = TKTEXT_EMPTY;
+    check(tktext_told_marks(&report) == 0 && mark_is(0, "", "", none, none) && gravity_is(0, -1, -1), "the marks that no world told");
+    tktext_new_greatest(&world);
+    tktext_report_new(&report);
+    tktext_call_words(&world, WORDS("text", ".t", "-undo", "1"));
+    check(call_told(&world, ".tinsert1.0abc", LENGTHS(2, 6, 3, 3)) == TKTEXT_ANSWER && tktext_told_marks(&report) == 0, "marks that go along");
+    check(call_told(&world, ".tmarksetm1.1", LENGTHS(2, 4, 3, 1, 3)) == TKTEXT_ANSWER && tktext_told_marks(&report) == 1
+          && mark_is(0, "m", "", none, 1) && gravity_is(0, -1, TKTEXT_RIGHT), "a mark that is set");
+    check(call_told(&world, ".tmarksetm1.1", LENGTHS(2, 4, 3, 1, 3)) == TKTEXT_ANSWER && tktext_told_marks(&report) == 0, "a mark that stays");
+    check(call_told(&world, ".tmarkgravitymleft", LENGTHS(2, 4, 7, 1, 4)) == TKTEXT_ANSWER && tktext_told_marks(&report) == 1
+          && mark_is(0, "m", "", 1, 1) && gravity_is(0, TKTEXT_RIGHT, TKTEXT_LEFT), "a mark that is turned");
+    check(call_told(&world, ".tinsert1.1x", LENGTHS(2, 6, 3, 1)) == TKTEXT_ANSWER && tktext_told_marks(&report) == 0, "a mark that stays before it");
+    check(call_told(&world, ".tmarksetinsert1.0", LENGTHS(2, 4, 3, 6, 3)) == TKTEXT_ANSWER && tktext_told_marks(&report) == 1
+          && mark_is(0, "insert", ".t", 4, 0), "a widget's own mark");
+    check(call_told(&world, ".teditundo", LENGTHS(2, 4, 4)) == TKTEXT_ANSWER && tktext_told(&report) == 1, "an undo");
+    check(call_told(&world, ".tmarkunsetnmm", LENGTHS(2, 4, 5, 1, 1, 1)) == TKTEXT_ANSWER && tktext_told_marks(&report) == 1
+          && mark_is(0, "m", "", 0, none) && gravity_is(0, TKTEXT_LEFT, -1), "a mark that goes");
+    check(mark_is(1, "", "", none, none) && gravity_is(1, -1, -1), "no such mark");
+    check(call_told(&world, ".tpeercreate.p", LENGTHS(2, 4, 6, 2)) == TKTEXT_ANSWER && tktext_told_marks(&report) == 2
+          && mark_is(0, "insert", ".p", none, 0) && mark_is(1, "current", ".p", none, 0), "the marks of a peer");
+    tktext_call_told(&world, false, (const uint8_t *)".tmarksetn1.0", 13, LENGTHS(2, 4, 3, 1, 3));
+    check(tktext_take_report(&world, &report) == TKTEXT_ANSWER && tktext_told_marks(&report) == 0, "marks that nobody asks for");
+    tktext_feed(&world, (const uint8_t *)".t mark unset n\n.t mark set n 1.0\n", 34);
+    check(next_told(&world) == TKTEXT_ANSWER && mark_is(0, "n", "", 0, none), "a mark by a script");
+    check(tktext_next_told(&world, false) == TKTEXT_ANSWER && tktext_take_report(&world, &report) == TKTEXT_ANSWER
+          && tktext_told_marks(&report) == 0, "one by a script that nobody asks for");
+    tktext_report_drop(&report);
+    tktext_drop(&world);
+}
+
 /* Whether one of the changes of tags is this one: a tag, of a `sel` its widget's name, and what becomes of it where. */
 static bool tag_is(size_t change, const char *tag, const char *widget, size_t from, size_t to, int on)
 {
@@ -346,7 +387,7 @@ static void check_reports(void)
     check(tktext_take_report(&world, &report) == TKTEXT_WRONG_HANDLE && report.full, "a report, but no world");
     tktext_new_greatest(&world);
     tktext_call_words(&world, WORDS("text", ".t"));
-    tktext_call_told(&world, (const uint8_t *)".tinsert1.0a", 12, LENGTHS(2, 6, 3, 1));
+    tktext_call_told(&world, false, (const uint8_t *)".tinsert1.0a", 12, LENGTHS(2, 6, 3, 1));
     check(tktext_take_report(&world, &other) == TKTEXT_WRONG_HANDLE, "a world, but no report");
     tktext_call_words(&world, WORDS(".t", "insert", "1.0", "b"));
     check(tktext_take_report(&world, &report) == TKTEXT_ANSWER && told_is(0, 0, "a"), "a plain call leaves the report");
@@ -496,6 +537,7 @@ static int try_uses(void)
     check_told();
     check_tags();
     check_ends();
+    check_marks();
     tktext_drop(&world);
     check_empty(&world);
     printf("%d passed, %d failed\n", passed, failed);

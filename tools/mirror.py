@@ -7,8 +7,9 @@ MODULE is the folder of the Python package, and the scripts are those of tools/f
 and the text of the other world have to be what the text is, and what is told has to be no idle change of what stood
 there, whose three ends are where it says.  Each tag has to be on just the characters on which it was told to be, each
 widget's `sel` too, no change of a tag may be idle, and the other world's text has to have the tags that all peers
-share.  Of a command that leaves the text the marks told have to be just those that stand elsewhere, are new, or are
-gone.  Where there is no such package a line says that it is skipped.  Ends in a line `N passed, M failed`; the exit
+share.  Each mark, `insert` and `current` of each widget too, has to be where the changes take it and the reports of
+marks then put it, with its gravity, in the text and in the copy; and a mark is reported only if the changes don't take
+it there.  Where there is no such package a line says that it is skipped.  Ends in a line `N passed, M failed`; the exit
 status is 1 if anything failed.
 """
 
@@ -20,6 +21,8 @@ import scripts
 from harness import Tally
 
 TOP = os.path.dirname(os.path.dirname(os.path.abspath(__file__)))
+# Marks of which each widget has its own.
+OWN_MARKS = ("insert", "current")
 
 
 def spot_in(text, offset):
@@ -34,74 +37,124 @@ def moved_by(change, tagged):
     return {at for at in tagged if at < change.at} | {at + growth for at in tagged if at >= end}
 
 
-def offsets_in(text, places):
-    """The offsets of the characters between places, which are a list of where ranges begin and end."""
+def starts_of(text):
+    """The offsets at which the lines of a text start, and its length."""
     starts = [0]
     for line in text.split("\n")[:-1]:
         starts.append(starts[-1] + len(line) + 1)
-    offsets = [starts[int(line) - 1] + int(char) for line, char in (str(place).split(".") for place in places)]
+    return starts
+
+
+def offset_in(starts, index):
+    line, char = str(index).split(".")
+    return starts[int(line) - 1] + int(char)
+
+
+def offsets_in(text, places):
+    """The offsets of the characters between places, which are a list of where ranges begin and end."""
+    starts = starts_of(text)
+    offsets = [offset_in(starts, place) for place in places]
     return {at for start, end in zip(offsets[::2], offsets[1::2]) for at in range(start, end)}
+
+
+def marks_of(view, starts):
+    """The marks that a widget which shows all of a text has, with offsets and gravity."""
+    marks = [(name, offset_in(starts, index)) for _, name, index in view.dump("1.0", "end", mark=True)]
+    return sorted((name, offset, view.mark_gravity(name)) for name, offset in marks)
+
+
+def bounds_of(view, starts):
+    """The offsets between which a widget shows the text."""
+    first, last = str(view.cget("startline")), str(view.cget("endline"))
+    return (starts[int(first) - 1] if first else 0, starts[int(last) - 1] if last else starts[-1])
 
 
 class Followed:
     """A text, by a peer of our own that shows all of it and that no script destroys, and what follows it."""
 
-    def __init__(self, whole, mirror):
-        self.whole, self.mirror = whole, mirror
-        self.is_edited = False
-        self.moved = []
-        self.places = self.find_marks()
+    def __init__(self, package, whole, mirror):
+        self.package, self.whole, self.mirror = package, whole, mirror
         # Which characters have a tag, or the `sel` of a widget.
         self.tagged = {}
+        # Where each mark is, by its name and the name of the widget whose own it is.
+        self.marks = {key: place for key, place, _ in self.find_marks(mirror.string)}
 
     def take_changes(self, changes):
-        self.is_edited = True
         for key, tagged in self.tagged.items():
             for change in changes:
                 tagged = moved_by(change, tagged)
             self.tagged[key] = tagged
 
-    def take_tags(self):
-        """Adds and removes tags as the reports say, of each widget's `sel` too; returns the changes, and the no-ops."""
-        links, changes, idle = self.whole._unread(), [], []
-        for content in filter(None, (link.read() for link in links[:-1])):
-            changes += content.tags if str(self.whole) in content.shown else []
+    def take_contents(self):
+        """The contents of the reports since the last call."""
+        links = self.whole._unread()
+        contents = [content for content in (link.read() for link in links[:-1])
+                    if content is not None and str(self.whole) in content.shown]
         self.whole._pass(links)
-        for change, widget in changes:
+        return contents
+
+    def take_tags(self, content):
+        """Adds and removes tags as a report says, of each widget's `sel` too; returns the no-ops."""
+        idle = []
+        for change, widget in content.tags:
             tagged = self.tagged.get((change.tag, widget), set())
             places = range(change.at, change.end)
             if not places or change.end > len(self.mirror.string) or any((at in tagged) == change.on for at in places):
                 idle.append((change, widget))
             self.tagged[change.tag, widget] = change.made_in(tagged)
-        return changes, idle
+        return idle
 
-    def wrong_tags(self, package, text):
+    def take_marks(self, content):
+        """Moves marks by the changes of a report, and then as it says; returns those that are wrong in it."""
+        carried = {key: place.moved_by(content.changes) for key, place in self.marks.items()}
+        keys = [(change.mark, change.widget) for change in content.marks]
+        wrong = [change for change, key in zip(content.marks, keys)
+                 if keys.count(key) > 1 or change.old != self.marks.get(key) or change.new == carried.get(key)]
+        carried.update((key, change.new) for change, key in zip(content.marks, keys))
+        self.marks = {key: place for key, place in carried.items() if place is not None}
+        return wrong
+
+    def views(self):
+        """The widgets that show the text, but our own peer."""
+        return [self.package.Text.named(self.whole.world, str(name)) for name in self.whole.peer_names()]
+
+    def find_marks(self, text):
+        """Yields each mark, where it is shown, and between which offsets: one elsewhere is shown at the nearest."""
+        starts = starts_of(text)
+        for name, offset, gravity in marks_of(self.whole, starts):
+            if name not in OWN_MARKS:
+                yield (name, ""), self.package.Position(offset, gravity), (0, len(text))
+        for view in (self.whole, *self.views()):
+            start, end = bounds_of(view, starts)
+            for name in OWN_MARKS:
+                offset = start + offset_in(starts_of(text[start:end]), view.index(name))
+                yield (name, str(view)), self.package.Position(offset, view.mark_gravity(name)), (start, end - 1)
+
+    def wrong_marks(self, text):
+        """The marks that aren't where the reports say, or have another gravity: in the text, and in the copy."""
+        found = {key: (place, bounds) for key, place, bounds in self.find_marks(text)}
+        # `destroy` isn't reported.
+        self.marks = {key: place for key, place in self.marks.items() if key in found or not key[1]}
+        for key in {**self.marks, **found}:
+            known, (place, (start, end)) = self.marks.get(key), found.get(key, (None, (0, 0)))
+            if known is None or place != known._replace(offset=max(start, min(known.offset, end))):
+                yield key, place, known
+        starts = starts_of(text)
+        copied, marks = marks_of(self.mirror.copy, starts), marks_of(self.whole, starts)
+        if copied != marks:
+            yield "the copy's", copied, marks
+
+    def wrong_tags(self, text):
         """The tags that aren't where they were told to be: those of all peers, the copy's, and each widget's `sel`."""
-        world, names = self.whole.world, [str(name) for name in self.whole.peer_names()]
+        views = self.views()
+        names = [str(view) for view in views]
         self.tagged = {(tag, widget): on for (tag, widget), on in self.tagged.items() if widget in ("", *names)}
-        views = [package.Text.named(world, name) for name in names]
         whole = [view for view in views if not str(view.cget("startline")) + str(view.cget("endline"))]
         found = [((tag, ""), other) for other in (self.whole, self.mirror.copy) for tag in self.whole.tag_names()
                  if tag != "sel"]
         found += [(("sel", str(view)), view) for view in whole]
         return [(key, str(view)) for key, view in found
                 if offsets_in(text, view.tag_ranges(key[0])) != self.tagged.get(key, set())]
-
-    def moved_on(self, names):
-        self.moved.extend(names)
-
-    def find_marks(self):
-        """Where each mark stands that all peers share."""
-        marks = self.whole.dump("1.0", "end", mark=True)
-        return {name: index for _, name, index in marks if name not in ("insert", "current")}
-
-    def take_moves(self):
-        """The marks that stand elsewhere than before, and those that were told, of a command that leaves the text."""
-        old, self.places = self.places, self.find_marks()
-        told, self.moved, is_edited, self.is_edited = self.moved, [], self.is_edited, False
-        if is_edited:
-            return [], told
-        return sorted(name for name in {**old, **self.places} if old.get(name) != self.places.get(name)), sorted(told)
 
 
 class Watch:
@@ -126,11 +179,11 @@ class Watch:
         mirror = self.mirror_class(whole)
         # Looked at before the mirror follows: each change has to be one of what the mirror was till then.
         mirror.stop()
-        followed = Followed(whole, mirror)
+        followed = Followed(self.package, whole, mirror)
         whole.on_change(lambda changes: self.check_changes(followed, changes))
         whole.on_change(mirror.follow)
         whole.on_tags(mirror.follow_tags)
-        whole.on_marks(followed.moved_on)
+        whole.on_marks(mirror.follow_marks)
         whole._unread()
         self.followed.append(followed)
 
@@ -152,20 +205,20 @@ class Watch:
 
     def compare(self):
         for followed in self.followed:
-            tags, idle = followed.take_tags()
-            self.tags += len(tags)
-            self.faults.extend(f"{change} is no change of a tag" for change in idle)
+            for content in followed.take_contents():
+                self.tags += len(content.tags)
+                self.moves += len(content.marks)
+                self.faults.extend(f"{change} is no change of a tag" for change in followed.take_tags(content))
+                self.faults.extend(f"{change} is no change of a mark" for change in followed.take_marks(content))
             now, mirror = followed.whole.get("1.0", "end"), followed.mirror
-            wrong = followed.wrong_tags(self.package, now)
+            wrong = followed.wrong_tags(now)
             if wrong:
                 self.faults.append(f"the tags {wrong} of {now!r} aren't as they were told")
             for name, other in (("string", mirror.string), ("copy", mirror.copy.get("1.0", "end"))):
                 if other != now:
                     self.faults.append(f"the {name} is {other!r}, and the text {now!r}")
-            moved, told = followed.take_moves()
-            if moved != told:
-                self.faults.append(f"the marks {moved} moved, and {told} were told")
-            self.moves += len(told)
+            self.faults.extend(f"the mark {key} is at {place}, and was reported at {known}"
+                               for key, place, known in followed.wrong_marks(now))
 
 
 def run(script, package, mirror_class):

@@ -477,7 +477,7 @@ finder = doctest.DocTestFinder()
 # Without tkinter the error is of a module of our own.
 flags = 0 if TclError.__module__ == "_tkinter" else doctest.IGNORE_EXCEPTION_DETAIL
 runner = doctest.DocTestRunner(optionflags=flags)
-for shown in (Text, World, Event, list_text, split_list):
+for shown in (Text, World, Event, Change.moved, Position.moved_by, list_text, split_list):
     tests = finder.find(shown, shown.__name__, module=False, globs=vars(tktext).copy())
     bare = {test.name for test in tests if not test.examples and "._" not in test.name}
     # Those that can't be had refer to one of them.
@@ -492,8 +492,10 @@ text, told = Text(undo=True, name=".t"), []
 peer, other = text.peer_create(".p"), Text(text.world, name=".u")
 end = text.on_change(lambda changes: told.append([change[:3] for change in changes]))
 peer.on_change(lambda changes: told.append(sum(change.removed for change in changes)))
-ended = text.on_marks(lambda names: told.append(names))
-peer.on_marks(lambda names: told.append(len(names)))
+def places(marks):
+    told.append([(mark, widget, old and tuple(old), new and tuple(new)) for mark, widget, old, new in marks])
+ended = text.on_marks(places)
+peer.on_marks(lambda marks: told.append(len(marks)))
 def show(answer):
     print(answer, told)
     told.clear()
@@ -524,11 +526,12 @@ show(other.delete("1.0", "end"))
 """
 FOLLOWED_SAYS = """None [[(0, 0, 'one😀')], 0]
  [[(2, 1, ''), (0, 1, '')], 2]
- [[(1, 0, 'e'), (0, 0, 'o')], 0]
+ [[(1, 0, 'e'), (0, 0, 'o')], 0, [('insert', '.t', (2, 'right'), (3, 'right'))], 1]
 None []
-[None, '', None, None] []
-[None, None, None, None] [['m'], 1, ['insert'], ['m'], 1]
-(None, 'TclError: bad text index "nowhere"', None, None) [['m'], 1, 1]
+[None, '', None, None] [[('insert', '.t', (3, 'right'), (3, 'left'))], 1]
+[None, None, None, None] [[('m', '', None, (0, 'right'))], 1, [('insert', '.t', (3, 'left'), (1, 'left'))], 1, \
+[('m', '', (0, 'right'), (5, 'right'))], 1]
+(None, 'TclError: bad text index "nowhere"', None, None) [[('m', '', (5, 'right'), None)], 1, 1]
 TclError: bad text index "nowhere" []
 [b'\\n', b'y\\n', b'\\n'] [[(0, 0, 'y')], 0]
 (0, b'y\\n') []
@@ -1053,7 +1056,7 @@ def cases(rounds):
     yield "lines of a world that is followed", LINES, LINES_SAY
     yield "memory that is refused to Python", REFUSED, "True True"
     yield "several interpreters", INTERPRETERS, INTERPRETERS_SAY
-    yield "the examples of the docstrings", EXAMPLES, "[]\n[]\n[]\n[]\n[]\n0"
+    yield "the examples of the docstrings", EXAMPLES, "[]\n" * 7 + "0"
     yield "random values", TKINTER, "done"
 
 

@@ -103,13 +103,16 @@ tktext::ontags .t {}
 tktext::ontags .p {}
 tktext::onmarks .t {puts}
 puts [tktext::onmarks .t]
-tktext::onmarks .p {apply {names { puts [list p $names] }}}
+tktext::onmarks .p {apply {marks { puts [list p {*}$marks] }}}
 .t mark set m 1.0
 .t mark set m 1.0
+.t mark gravity m left
 .p mark set insert 1.1
+.t edit undo
 .t mark unset m n m
-.t mark set current 1.0
+.t peer create .q
 tktext::onmarks .t {}
+tktext::destroy .q
 .t mark set m 1.0
 tktext::onmarks .p {}
 tried {.t insert foo bar}
@@ -142,19 +145,26 @@ peer {y 0 2 0}
 tags {y 0 2 0}
 t {1 2 {}}
 puts
-p m
-m
-p insert
-p m
-m
-current
-p m
+p {m {} {} {0 right}}
+{m {} {} {0 right}}
+p {m {} {0 right} {0 left}}
+{m {} {0 right} {0 left}}
+p {insert .p {8 right} {1 right}}
+{insert .p {8 right} {1 right}}
+p {insert .t {5 right} {3 right}}
+t {1 0 ab}
+{insert .t {5 right} {3 right}}
+p {m {} {0 left} {}}
+{m {} {0 left} {}}
+p {insert .q {} {0 right}} {current .q {} {0 right}}
+{insert .q {} {0 right}} {current .q {} {0 right}}
+p {m {} {} {0 right}}
 error: bad text index "foo" (TKTEXT FAULT {bad text index "foo"})
 1
-t {8 0 x}
+t {10 0 x}
 background: bad
 {} {}
-one
+oabne
 error: invalid command name ".t" (NONE)
 error: list element in braces followed by "c" instead of space (TCL VALUE LIST JUNK)
 error: wrong # args: should be "tktext::onchange window ?prefix?" (TCL WRONGARGS)
@@ -164,6 +174,14 @@ error: wrong # args: should be "tktext::onchange window ?prefix?" (TCL WRONGARGS
 COPY = r"""
 set copy "\n"
 set tagged {{}}
+# Where each mark is, and its gravity, by its name and the name of the widget whose own it is.
+set marks {}
+proc moved {place at removed inserted} {
+    lassign $place offset gravity
+    set offset [expr {min($offset, $at) + max($offset - $at - $removed, 0)}]
+    if {$offset > $at || ($offset == $at && $gravity eq "right")} { incr offset [string length $inserted] }
+    return [list $offset $gravity]
+}
 proc follow {changes} {
     foreach change $changes {
         lassign $change at removed inserted
@@ -171,8 +189,26 @@ proc follow {changes} {
         set ::copy [string range $::copy 0 [expr {$at - 1}]]$inserted[string range $::copy $rest end]
         set new [lrepeat [string length $inserted] {}]
         set ::tagged [concat [lrange $::tagged 0 [expr {$at - 1}]] $new [lrange $::tagged $rest end]]
+        dict for {key place} $::marks { dict set ::marks $key [moved $place $at $removed $inserted] }
     }
 }
+proc follow_marks {changes} {
+    foreach change $changes {
+        lassign $change mark widget old new
+        set key [list $mark $widget]
+        if {$new eq ""} { dict unset ::marks $key } else { dict set ::marks $key $new }
+    }
+}
+# The marks of the text that `.t` has, as `follow_marks` keeps them.
+proc marks_of {} {
+    set marks {}
+    foreach {kind mark index} [.t dump -mark 1.0 end] {
+        set place [list [string length [.t get 1.0 $index]] [.t mark gravity $mark]]
+        dict set marks [list $mark [expr {$mark in {insert current} ? ".t" : ""}]] $place
+    }
+    return $marks
+}
+proc sorted {marks} { lsort -stride 2 [dict filter $marks script {key place} { expr {[lindex $key 1] in {{} .t}} }] }
 proc follow_tags {changes} {
     foreach change $changes {
         lassign $change tag from to on
@@ -199,7 +235,10 @@ proc compare {} {
     set text [.t get 1.0 end]
     if {$::copy ne $text} { return [list copy $::copy text $text] }
     set tagged [tags_of $text]
-    return [expr {$::tagged eq $tagged ? "same" : [list tags $::tagged text $tagged]}]
+    if {$::tagged ne $tagged} { return [list tags $::tagged text $tagged] }
+    set marks [marks_of]
+    if {$::marks ne "" && [sorted $::marks] ne [sorted $marks]} { return [list marks $::marks text $marks] }
+    return same
 }
 """
 
@@ -313,7 +352,7 @@ p {0 2 {} {1 0 0 0}}
 t {0 2 {} {1 0 0 0}}
 p-tags {late 0 1 1}
 tags {late 0 1 1}
-p-marks m
+p-marks {m {} {} {1 right}}
 result: 
 p {4 0 0 {1 4 4 4}}
 old {4 0 0 {1 4 4 4}}
@@ -446,6 +485,11 @@ tktext::onchange .o see
 .o insert end ab
 .o insert 1.1 $smile
 .o insert end c
+tktext::onmarks .o see
+.o mark set m 1.3
+.o mark set insert 1.2
+.o replace 1.1 1.3 ${smile}${smile}${smile}x
+.o delete 1.0 1.2
 """
 WIDE_PRINTS = """{7 0 \U0001f600y {2 1 4 2} {2 1 4 2} {2 3 9 5}}
 {x 7 9 1} {y 9 10 1}
@@ -474,6 +518,11 @@ WIDE_PRINTS = """{7 0 \U0001f600y {2 1 4 2} {2 1 4 2} {2 3 9 5}}
 {0 0 ab {1 0 0 0} {1 0 0 0} {1 2 2 2}}
 {1 0 \U0001f600 {1 1 1 1} {1 1 1 1} {1 2 5 3}}
 {4 0 c {1 3 6 4} {1 3 6 4} {1 4 7 5}}
+{m {} {} {4 right}}
+{insert .o {5 right} {3 right}}
+{1 3 \U0001f600\U0001f600\U0001f600x {1 1 1 1} {1 3 6 4} {1 5 14 8}}
+{insert .o {3 right} {3 right}}
+{0 3 {} {1 0 0 0} {1 2 5 3} {1 0 0 0}}
 """
 
 # Random commands on a text with characters of all lengths, by it and two peers that show a part of it, with a copy of
@@ -491,7 +540,7 @@ proc words {} {
 }
 proc tags {} { pick {{} x y {x y} {}} }
 proc command {widget} {
-    switch [random 12] {
+    switch [random 14] {
         0 - 1 - 2 { return [list $widget insert [spot] [words] [tags]] }
         3 { return [list $widget insert [spot] [words] [tags] [words] [tags]] }
         4 { return [list $widget delete [spot] [spot]] }
@@ -502,6 +551,8 @@ proc command {widget} {
         9 { return [list $widget configure -startline [pick {{} 2}] -endline [pick {{} 4}]] }
         10 { return [list $widget edit undo] }
         11 { return [list $widget edit redo] }
+        12 { return [list $widget mark set [pick {m n insert current}] [spot]] }
+        13 { return [list $widget mark {*}[pick {{unset m} {gravity m left} {gravity n left} {gravity insert left}}]] }
     }
 }
 proc shorten {changes} {
@@ -521,8 +572,10 @@ proc play {seed} {
         set ::copy [.t get 1.0 end]
         set ::tagged [tags_of $::copy]
     }
+    set ::marks [marks_of]
     tktext::onchange $following follow
     tktext::ontags $following follow_tags
+    tktext::onmarks $following follow_marks
     tktext::onchange .b shorten
     for {set number 0} {$number < $::commands} {incr number} {
         set command [command [pick {.t .a .c}]]

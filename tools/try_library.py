@@ -35,7 +35,7 @@ fn main(rt: HostRuntime) {
     let _ = tktext_new_greatest(alloc, &mut handle);
     let _ = tktext_call(alloc, &mut handle, b"text.t", &lengths);
     let _ = tktext_said(alloc, &mut handle, &mut room);
-    let _ = tktext_call_told(alloc, &mut handle, b"text.t", &lengths);
+    let _ = tktext_call_told(alloc, &mut handle, true, b"text.t", &lengths);
     let _ = tktext_word(alloc, &mut handle, 0, &mut room);
     let _ = tktext_report_new(alloc, &mut report);
     let _ = tktext_take_report(alloc, &mut handle, &mut report);
@@ -55,6 +55,9 @@ fn main(rt: HostRuntime) {
     let _ = tktext_told_tag_on(alloc, &mut report, 0);
     let _ = tktext_told_marks(alloc, &mut report);
     let _ = tktext_told_mark(alloc, &mut report, 0, &mut room);
+    let _ = tktext_told_mark_widget(alloc, &mut report, 0, &mut room);
+    let _ = tktext_told_mark_at(alloc, &mut report, 0, 0);
+    let _ = tktext_told_mark_gravity(alloc, &mut report, 0, 0);
     tktext_report_drop(alloc, &mut report);
     report.spent();
     let _ = tktext_can_undo(alloc, &mut handle, b".t");
@@ -62,7 +65,7 @@ fn main(rt: HostRuntime) {
     let _ = tktext_feed(alloc, &mut handle, b"text .u");
     tktext_finish(alloc, &mut handle);
     let _ = tktext_next(alloc, &mut handle);
-    let _ = tktext_next_told(alloc, &mut handle);
+    let _ = tktext_next_told(alloc, &mut handle, true);
     let _ = tktext_status(alloc, &mut handle);
     tktext_drop(alloc, &mut handle);
     handle.spent();

@@ -31,7 +31,7 @@ except ImportError as error:
     ) from error
 from ._errors import TclError, error_of_fault
 from ._events import Event
-from ._reports import Change, Spot, TagChange, make_content
+from ._reports import Change, MarkChange, Position, Spot, TagChange, make_content
 from ._values import list_text, word
 
 _core.use(word, error_of_fault, make_content, MethodType)
@@ -52,11 +52,11 @@ SEL_LAST = "sel.last"
 
 split_list = _core.split_list
 
-for _public in (Change, Event, Spot, TagChange, Text, World):
+for _public in (Change, Event, MarkChange, Position, Spot, TagChange, Text, World):
     # Its name is shown with the package that users import it from.
     _public.__module__ = __name__
 
 __all__ = [
-    "CURRENT", "Change", "END", "Event", "INSERT", "SEL", "SEL_FIRST", "SEL_LAST", "Spot", "TagChange", "TclError",
-    "Text", "World", "list_text", "split_list",
+    "CURRENT", "Change", "END", "Event", "INSERT", "MarkChange", "Position", "SEL", "SEL_FIRST", "SEL_LAST", "Spot",
+    "TagChange", "TclError", "Text", "World", "list_text", "split_list",
 ]

@@ -72,6 +72,8 @@ typedef struct {
     char is_watched;
     /* Whether a call that is under way delivers what is queued. */
     char is_delivering;
+    /* Whether one of those who follow follows marks. */
+    char follows_marks;
     /* The tuple of those who follow, or NULL. */
     PyObject *followers;
     /* The queue, or NULL: the first link that isn't delivered, and the empty one, which the next report fills. */
@@ -140,7 +142,7 @@ int note_widgets(World *world);
 int deliver(World *world);
 int queue_event(World *world, PyObject *event);
 PyObject *followers_of(World *world);
-int replace_followers(World *world, PyObject *old, PyObject *new);
+int replace_followers(World *world, PyObject *old, PyObject *new, int follows_marks);
 PyObject *links_from(World *world, Report **unread);
 void drop_queue(World *world);
 int visit_queue(World *world, visitproc visit, void *arg);

@@ -142,9 +142,29 @@ static PyObject *tag_change_of(tktext_report *report, size_t change)
                          PyBool_FromLong(tktext_told_tag_on(report, change)), widget);
 }
 
-static PyObject *mark_of(tktext_report *report, size_t mark)
+/* Returns where a mark is before or after the command: its offset and its gravity; None if it isn't there. */
+static PyObject *position_of(tktext_report *report, size_t mark, size_t end)
 {
-    return text_of(report, tktext_told_mark, mark);
+    size_t at = tktext_told_mark_at(report, mark, end);
+    if (at == TKTEXT_NO_PLACE)
+        return none();
+    int is_left = tktext_told_mark_gravity(report, mark, end) == TKTEXT_LEFT;
+    return Py_BuildValue("ns", (Py_ssize_t)at, is_left ? "left" : "right");
+}
+
+/* Returns a change of a mark: the mark, the widget of an `insert` or `current`, and where the mark was and is. */
+static PyObject *mark_change_of(tktext_report *report, size_t mark)
+{
+    PyObject *name = text_of(report, tktext_told_mark, mark);
+    PyObject *widget = name == NULL ? NULL : text_of(report, tktext_told_mark_widget, mark);
+    PyObject *old = widget == NULL ? NULL : position_of(report, mark, TKTEXT_BEFORE);
+    PyObject *new = old == NULL ? NULL : position_of(report, mark, TKTEXT_AFTER);
+    if (new != NULL)
+        return Py_BuildValue("NNNN", name, widget, old, new);
+    Py_XDECREF(name);
+    Py_XDECREF(widget);
+    Py_XDECREF(old);
+    return NULL;
 }
 
 static PyObject *list_of(tktext_report *report, size_t count, PyObject *(*item_of)(tktext_report *, size_t))
@@ -161,7 +181,7 @@ static PyObject *lists_of(tktext_report *report)
 {
     PyObject *changes = list_of(report, tktext_told(report), change_of);
     PyObject *tags = changes == NULL ? NULL : list_of(report, tktext_told_tags(report), tag_change_of);
-    PyObject *marks = tags == NULL ? NULL : list_of(report, tktext_told_marks(report), mark_of);
+    PyObject *marks = tags == NULL ? NULL : list_of(report, tktext_told_marks(report), mark_change_of);
     if (marks != NULL)
         return Py_BuildValue("NNN", changes, tags, marks);
     Py_XDECREF(changes);
@@ -276,9 +296,9 @@ int32_t call_reported(World *world, const uint8_t *bytes, size_t size, const siz
 {
     if (prepare(world) < 0)
         return -1;
-    int32_t code = (world->followers != NULL ? tktext_call_told : tktext_call)(
-        &world->handle, bytes, size, lengths, count);
-    return conclude(world, code);
+    if (world->followers == NULL)
+        return conclude(world, tktext_call(&world->handle, bytes, size, lengths, count));
+    return conclude(world, tktext_call_told(&world->handle, world->follows_marks, bytes, size, lengths, count));
 }
 
 /* The same of the next command of the script, which ends with a fault of its own. */
@@ -289,7 +309,9 @@ int32_t next_reported(World *world)
         return -1;
     if (tktext_status(&world->handle) == SCRIPT_FAULT)
         return TKTEXT_END;
-    return conclude(world, (world->followers != NULL ? tktext_next_told : tktext_next)(&world->handle));
+    if (world->followers == NULL)
+        return conclude(world, tktext_next(&world->handle));
+    return conclude(world, tktext_next_told(&world->handle, world->follows_marks));
 }
 
 /* Asks the widget of the last command for its peers. */
@@ -453,8 +475,9 @@ PyObject *followers_of(World *world)
     return world->followers;
 }
 
-/* Replaces the tuple of followers: 1; or 0 if it isn't the old one any more, and -1 after an error. */
-int replace_followers(World *world, PyObject *old, PyObject *new)
+/* Replaces the tuple of followers, some of which may follow marks: 1; or 0 if it isn't the old one any more, and -1
+   after an error. */
+int replace_followers(World *world, PyObject *old, PyObject *new, int follows_marks)
 {
     if (begin_queue(world) < 0)
         return -1;
@@ -469,6 +492,7 @@ int replace_followers(World *world, PyObject *old, PyObject *new)
         world->followers = NULL;
         world->spare = NULL;
     }
+    world->follows_marks = follows_marks != 0;
     Py_XDECREF(present);
     Py_XDECREF(spare);
     return 1;

@@ -2,16 +2,13 @@
 
 from __future__ import annotations
 
-from typing import TYPE_CHECKING, Any, Callable, NamedTuple
+from typing import TYPE_CHECKING, Any, Callable, Iterable, NamedTuple
 
 from . import _core
 from ._events import print_error
 
 if TYPE_CHECKING:
     from ._text import Text
-
-# Marks of which each widget has its own.
-_OWN_MARKS = ("insert", "current")
 
 
 class Spot(NamedTuple):
@@ -51,6 +48,17 @@ class Change(NamedTuple):
         """Returns a text after the change."""
         return text[: self.at] + self.inserted + text[self.at + self.removed :]
 
+    def moved(self, offset: int, gravity: str = "right") -> int:
+        """Returns where the change takes a mark of a gravity from an offset: by its deletion, then by its insertion.
+
+        >>> change = Change(2, 1, "xy", Spot(1, 2, 2, 2), Spot(1, 3, 3, 3), Spot(1, 4, 4, 4))
+        >>> change.moved(2), change.moved(2, "left"), change.moved(5)
+        (4, 2, 6)
+        """
+        offset = min(offset, self.at) + max(offset - self.at - self.removed, 0)
+        is_after = offset > self.at or (offset == self.at and gravity == "right")
+        return offset + len(self.inserted) if is_after else offset
+
 
 class TagChange(NamedTuple):
     """A change of a tag: it was added (`on`) to the characters at the offsets from `at` to `end`, or removed from them.
@@ -69,6 +77,39 @@ class TagChange(NamedTuple):
         return tagged.union(span) if self.on else tagged.difference(span)
 
 
+class Position(NamedTuple):
+    """Where a mark is: its offset, and its gravity, "left" or "right"."""
+
+    offset: int
+    gravity: str
+
+    def moved_by(self, changes: Iterable[Change]) -> Position:
+        """Returns where changes of the text alone take the mark, applied in order.
+
+        >>> change = Change(2, 1, "xy", Spot(1, 2, 2, 2), Spot(1, 3, 3, 3), Spot(1, 4, 4, 4))
+        >>> Position(5, "left").moved_by([change, change])
+        Position(offset=7, gravity='left')
+        """
+        offset = self.offset
+        for change in changes:
+            offset = change.moved(offset, self.gravity)
+        return Position(offset, self.gravity)
+
+
+class MarkChange(NamedTuple):
+    """A mark that isn't where the changes of the text take it, has another gravity, is new, or is gone.
+
+    `widget` is the name of the widget whose `insert` or `current` it is, and "" for any other mark, which all peers
+    share.  It was at the position `old` before the command, and is at `new` after it; None of a mark that wasn't there,
+    or isn't.
+    """
+
+    mark: str
+    widget: str
+    old: Position | None
+    new: Position | None
+
+
 class Content(NamedTuple):
     """The content of a report: the names of the command's widget and of all that showed its text, and what changed.
 
@@ -79,14 +120,19 @@ class Content(NamedTuple):
     shown: tuple[str, ...]
     changes: list[Change]
     tags: list[tuple[TagChange, str]]
-    marks: list[str]
+    marks: list[MarkChange]
 
 
-def make_content(widget: str, peers: str, lists: tuple[list[Any], list[Any], list[str]]) -> Content:
+def _position(parts: tuple[int, str] | None) -> Position | None:
+    return None if parts is None else Position(*parts)
+
+
+def make_content(widget: str, peers: str, lists: tuple[list[Any], list[Any], list[Any]]) -> Content:
     """Returns the content of a report, which the extension has as tuples."""
     changes = [Change(*change[:3], *map(Spot._make, change[3:])) for change in lists[0]]
     tags = [(TagChange(*change), owner) for *change, owner in lists[1]]
-    return Content(widget, (widget, *_core.split_list(peers)), changes, tags, lists[2])
+    marks = [MarkChange(mark, owner, _position(old), _position(new)) for mark, owner, old, new in lists[2]]
+    return Content(widget, (widget, *_core.split_list(peers)), changes, tags, marks)
 
 
 # ---- what concerns a widget
@@ -102,8 +148,8 @@ def tags_for(content: Content, name: str) -> list[TagChange]:
     return [change for change, owner in content.tags if owner in ("", name)]
 
 
-def marks_for(content: Content, name: str) -> list[str]:
-    return [mark for mark in content.marks if name == content.widget or mark not in _OWN_MARKS]
+def marks_for(content: Content, name: str) -> list[MarkChange]:
+    return list(content.marks)
 
 
 # In the order in which followers are called.
@@ -125,6 +171,7 @@ class Follower:
     def __init__(self, text: Text, part: Part, function: Callable[[Any], Any] | None) -> None:
         self.text = text
         self.rank = _PARTS.index(part)
+        self.follows_marks = part is marks_for
         self.function = function
 
     def part(self, report: _core.Report) -> list[Any]:

@@ -9,7 +9,7 @@ from typing import Any, Callable, Mapping, Protocol, TypeVar, cast
 from . import _core, _options
 from ._errors import TclError, refusal
 from ._events import MODIFIED, SELECTION, Bindings, Event, Handler
-from ._reports import Change, Follower, Part, TagChange, changes_for, marks_for, part_of, tags_for
+from ._reports import Change, Follower, MarkChange, Part, TagChange, changes_for, marks_for, part_of, tags_for
 from ._values import list_text, number_or_text, word
 from ._world import World
 
@@ -877,17 +877,19 @@ class Text(_core.Widget):
         """
         return self._follow(tags_for, function)
 
-    def on_marks(self, function: Callable[[list[str]], Any]) -> Callable[[], None]:
-        """Calls a function after each `mark_set` and `mark_unset` that moves marks, with a list of their names.
+    def on_marks(self, function: Callable[[list[MarkChange]], Any]) -> Callable[[], None]:
+        """Calls a function after each command that moves marks otherwise than with the text, with `MarkChange`s.
 
-        A mark is reported if it is at another offset after the command, is new, or is gone.  Marks that an edit moves
-        with the text aren't reported, nor is `insert` if undo, redo or `replace` moves it.  `insert` and `current` are
-        reported to their own widget, other marks to each peer.  Returns a function that ends the reports.
+        They follow the reports of `on_change` and `on_tags` for the same command.  A mark is reported if it isn't where
+        the changes of the text take it (`Change.moved`), has another gravity, is new, or is gone, after `mark_set` as
+        after an undo.  Any other mark is where the changes take it.  The marks are those of the text: the `insert` and
+        `current` of each peer, with the peer's name, and the shared ones.  Those of a destroyed widget aren't reported.
+        Returns a function that ends the reports.
 
         >>> text = Text()
         >>> end = text.on_marks(print)
-        >>> text.mark_set("here", "1.0"), text.mark_set("here", "1.0")
-        ['here']
+        >>> text.mark_set("here", "1.0"), text.mark_set("here", "1.0")  # doctest: +NORMALIZE_WHITESPACE
+        [MarkChange(mark='here', widget='', old=None, new=Position(offset=0, gravity='right'))]
         (None, None)
         >>> end()
         """

@@ -324,9 +324,10 @@ static PyObject *world_followers(World *world, PyObject *Py_UNUSED(nothing))
 static PyObject *world_replace_followers(World *world, PyObject *arguments)
 {
     PyObject *old, *new;
-    if (!PyArg_ParseTuple(arguments, "O!O!", &PyTuple_Type, &old, &PyTuple_Type, &new))
+    int follows_marks;
+    if (!PyArg_ParseTuple(arguments, "O!O!p", &PyTuple_Type, &old, &PyTuple_Type, &new, &follows_marks))
         return NULL;
-    int is_replaced = replace_followers(world, old, new);
+    int is_replaced = replace_followers(world, old, new, follows_marks);
     return is_replaced < 0 ? NULL : PyBool_FromLong(is_replaced);
 }
 

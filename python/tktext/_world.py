@@ -193,6 +193,7 @@ class World(_core.World):
             kept = [follower for follower in old if follower not in ended]
             kept += [follower for follower in added if follower not in old]
             new = tuple(sorted(kept, key=operator.attrgetter("rank")))
+            follows_marks = any(follower.follows_marks for follower in new)
             # Another thread, or a handler, may have changed them in the meantime.
-            if new == old or self._replace_followers(old, new):
+            if new == old or self._replace_followers(old, new, follows_marks):
                 return

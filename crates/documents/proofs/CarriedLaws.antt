@@ -63,13 +63,11 @@ carried-reordered P document position order (name, Some other) same next =
 
 -- ---- edits
 
--- It holds of a document, and after each edit of a widget that leaves the characters, their tags and each mark where it
--- is.
+-- It holds of a document, and after each edit of a widget that leaves the characters, their tags and each mark as they
+-- are.
 pub record IsQuiet (limits : LimitTable) (document : Document) (widget : Widget) (P : Document →
     Type 0) : Type 0 where
   pub same : P document
-  pub turned : (name : List ℕ) (old : Place) (gravity : Gravity) → place_named document widget name ≡ Some old
-      → P (with_mark document widget name (record old { gravity = gravity }))
   pub ordered : (position : ℕ) (order : List (List ℕ) → List ℕ → Option (List ℕ) →
       List (List ℕ)) (words : List ℕ × Option (List ℕ))
       → P (reordered document position order words).document
@@ -83,19 +81,18 @@ pub record IsTagged (limits : LimitTable) (document : Document) (widget : Widget
   pub removed : (name places : List ℕ) → P (remove_spans document widget name places).document
   pub untagged : (names : List (List ℕ)) → P (tag_delete document names).document
 
--- It holds after each edit of a widget that sets marks or takes them out.
+-- It holds after each edit of a widget that sets marks, turns their gravity or takes them out.
 pub record IsMarked (limits : LimitTable) (document : Document) (widget : Widget) (P : Document →
     Type 0) : Type 0 where
+  pub turned : (name : List ℕ) (old : Place) (gravity : Gravity) → place_named document widget name ≡ Some old
+      → P (with_mark document widget name (record old { gravity = gravity }))
   pub set : (name : List ℕ) (offset : ℕ) (found : Option Place) →
       P (set_found limits document widget name offset found).document
   pub unset : (names : List (List ℕ)) → P (mark_unset document names).document
 
--- It holds of a document, and after each edit of a widget that a command may make.
-pub record IsCarried (limits : LimitTable) (document : Document) (widget : Widget) (P : Document →
+-- It holds after each edit of a widget that changes the characters.
+pub record IsTextEdited (limits : LimitTable) (document : Document) (widget : Widget) (P : Document →
     Type 0) : Type 0 where
-  pub quiet : IsQuiet limits document widget P
-  pub tagged : IsTagged limits document widget P
-  pub marked : IsMarked limits document widget P
   pub inserted : (place : ℕ) (pairs : List Pair) → is_idle document widget ≡ false
       → P (insert_at limits document widget (insertion_offset document widget place) pairs).document
   pub replaced : (from to : ℕ) (pairs : List Pair) → is_idle document widget ≡ false → from ≤ to
@@ -107,3 +104,11 @@ pub record IsCarried (limits : LimitTable) (document : Document) (widget : Widge
       → P (delete_places document widget places).document
   pub undone : P (edit_undo document widget).document
   pub redone : P (edit_redo document widget).document
+
+-- It holds of a document, and after each edit of a widget that a command may make.
+pub record IsCarried (limits : LimitTable) (document : Document) (widget : Widget) (P : Document →
+    Type 0) : Type 0 where
+  pub quiet : IsQuiet limits document widget P
+  pub tagged : IsTagged limits document widget P
+  pub marked : IsMarked limits document widget P
+  pub edited : IsTextEdited limits document widget P

@@ -1,12 +1,12 @@
 -- The names that most proofs of this crate cite, passed on from one place. Declares nothing.
-pub use Rattle.std.proofs.Common.{[], ap₂, if◌then◌else◌, true≢false, ℕ, ◌&&◌, ◌*◌, ◌++◌, ◌+◌, ◌-◌, ◌<◌, ◌==◌, ◌||◌}
-pub use Rattle.std.proofs.Common.{◌∙◌, ◌∷◌, ◌≡◌, ◌≢◌, ◌≤◌, ◌⊎◌, Bool, Contains, Err, IfOk, IfSome, List, None, Ok}
-pub use Rattle.std.proofs.Common.{OnErr, Option, Result, Some, String, ap, append-nil, append_assoc, arith, bytes_eq}
-pub use Rattle.std.proofs.Common.{chars, cond, drop, encode_utf8_all, eq-eqb, eqb-true, false, filter, find, get_or}
-pub use Rattle.std.proofs.Common.{get_or-append-add, inl, inr, is_some, length, length-append, length-drop, length-take}
-pub use Rattle.std.proofs.Common.{map, max, min, nat_le, nat_lt, ne_eqb, not, option_and_then, option_map, refl, remove}
-pub use Rattle.std.proofs.Common.{set, slice_get, slice_index_or, slice_range, string_bytes, subst, suc, sym, take}
-pub use Rattle.std.proofs.Common.{true, zero}
+pub use Rattle.std.proofs.Common.{[], ap₂, if◌then◌else◌, lit≤, true≢false, ℕ, ◌&&◌, ◌*◌, ◌++◌, ◌+◌, ◌-◌, ◌<◌, ◌==◌}
+pub use Rattle.std.proofs.Common.{◌^◌, ◌||◌, ◌∙◌, ◌∷◌, ◌≡◌, ◌≢◌, ◌≤◌, ◌⊎◌, Bool, Contains, Err, IfOk, IfSome, List}
+pub use Rattle.std.proofs.Common.{None, Ok, OnErr, Option, Result, Some, String, ap, append-nil, append_assoc, arith}
+pub use Rattle.std.proofs.Common.{bytes_eq, chars, cond, drop, encode_utf8_all, eq-eqb, eqb-true, false, filter, find}
+pub use Rattle.std.proofs.Common.{get_or, get_or-append-add, inl, inr, is_some, length, length-append, length-drop}
+pub use Rattle.std.proofs.Common.{length-take, map, max, min, nat_le, nat_lt, ne_eqb, not, option_and_then, option_map}
+pub use Rattle.std.proofs.Common.{refl, remove, rules, set, slice_get, slice_index_or, slice_range, string_bytes, subst}
+pub use Rattle.std.proofs.Common.{suc, sym, take, true, zero}
 pub use Rattle.command_effects.proofs.LeftLaws.{AreApart-head, AreApart-tail}
 pub use Rattle.command_effects.proofs.MadeLaws.{absent_slot, among_slot, found_tag, front_same, take-more}
 pub use Rattle.command_effects.proofs.PairLaws.{spans_of-fit}
@@ -47,11 +47,13 @@ pub use Rattle.documents.specs.Kept.{IsSeated, IsSound, Stands, is_window_name}
 pub use Rattle.documents.specs.Keys.{Key, Keys, is_shared, key_cmp, key_named, key_pairs, keyed, keys_named, keys_of}
 pub use Rattle.documents.specs.Keys.{numbers_gone, pair_slots, rank, seat_pair, seats_left, selection_stays, set_key}
 pub use Rattle.documents.specs.Keys.{tag_pair}
-pub use Rattle.documents.specs.Marks.{mark_names, mark_offset, mark_unset, origin_in, place_named, set_found}
-pub use Rattle.documents.specs.Marks.{shared_from, shown_at, usable_marks, with_current, with_insert, with_mark}
-pub use Rattle.documents.specs.Marks.{with_shared, with_widget}
-pub use Rattle.documents.specs.MarksTold.{AreGathered, ForetellsMarks, IsSharedName, MarksTold, offset_named}
-pub use Rattle.documents.specs.MarksTold.{offset_seen}
+pub use Rattle.documents.specs.Marks.{mark_names, mark_unset, origin_in, place_named, set_found, shared_from, shown_at}
+pub use Rattle.documents.specs.Marks.{usable_marks, with_current, with_insert, with_mark, with_shared, with_widget}
+pub use Rattle.documents.specs.MarksListed.{AreListed, IsSettled, all_carried_within, carried_within, mark_taken}
+pub use Rattle.documents.specs.MarksListed.{shared_key}
+pub use Rattle.documents.specs.MarksTold.{AreCarried, AreOthers, AreSingle, AreWatched, HasMarksBut, IsMarkChange}
+pub use Rattle.documents.specs.MarksTold.{TellsMarks, carried, carried_all, mark_at, mark_carried, mark_key, mark_keys}
+pub use Rattle.documents.specs.MarksTold.{own_keys, place_of_kind, watched}
 pub use Rattle.documents.specs.Names.{key_of, mark_number, mark_place, meanings, place_of, tag_flags, tag_number}
 pub use Rattle.documents.specs.Options.{AreLines, IsLine, anchor_at, settings_of, widget_set, with_settings}
 pub use Rattle.documents.specs.Promise.{Change, Does, Gives, answered, change_with, edited, refused, unless_idle}
@@ -69,6 +71,10 @@ pub use Rattle.documents.specs.Views.{is_idle, shown, shown_flags, view_end, vie
 pub use Rattle.documents.specs.WellFormed.{HasItsKeys, IsPlaced, IsWellFormedDocument, belongs, window_names}
 pub use Rattle.documents.specs.Widgets.{IsOpen, ShowsOpenly, is_kept, new_widget, widget_named, with_peer}
 pub use Rattle.documents.specs.Widgets.{without_selections}
+pub use Rattle.documents.specs.declared.mark_lists.MarkChange.{MarkChange}
+pub use Rattle.documents.specs.declared.mark_lists.MarkKey.{MarkKey}
+pub use Rattle.documents.specs.declared.mark_lists.MarkKind.{MarkKind}
+pub use Rattle.documents.specs.declared.mark_lists.MarkKind.TheVariants.{Current, Insert, Shared}
 pub use Rattle.documents.specs.declared.tag_lists.TagChange.{TagChange}
 pub use Rattle.documents.specs.declared.told.EditTold.{EditTold}
 pub use Rattle.edit_ops.proofs.AnchoredLaws.{all-moved, all-removed, anchored-stand}
@@ -90,9 +96,10 @@ pub use Rattle.edit_ops.specs.Reversals.{redo_end, taken_back, undo_end}
 pub use Rattle.edit_ops.specs.SlotRuns.{AreBareRuns, IsBareRun, bare_cells, slotted, with_slots}
 pub use Rattle.edit_ops.specs.States.{Log, State, log_noted, log_of, state_of}
 pub use Rattle.edit_ops.specs.Tagging.{SpanFits, cell_without, cleared, tagged, without}
-pub use Rattle.edit_ops.specs.Told.{AreExact, AreHunks, AreHunksOf, Tells, deletion, hunk_changes, insertion, patched}
-pub use Rattle.edit_ops.specs.Told.{patched_by}
+pub use Rattle.edit_ops.specs.Told.{AreExact, AreFalling, AreHunks, AreHunksOf, Tells, after_change, deletion}
+pub use Rattle.edit_ops.specs.Told.{hunk_changes, insertion, patched, patched_by}
 pub use Rattle.edit_ops.specs.declared.anchors.Anchors.{Anchors}
+pub use Rattle.edit_ops.specs.declared.changes.TextChange.{TextChange}
 pub use Rattle.edit_ops.specs.declared.slot_runs.SlotRun.{SlotRun}
 pub use Rattle.edit_ops.specs.declared.slotted_texts.SlottedText.{SlottedText}
 pub use Rattle.edit_ops.specs.declared.spans.Span.{Span}
@@ -100,8 +107,9 @@ pub use Rattle.index_grammar.specs.Names.{known_marks, known_tags}
 pub use Rattle.mark_table.specs.Order.{earlier, rank_of, usable}
 pub use Rattle.mark_table.specs.SharedMarks.{AreMarks, Mark, SharedMarks, first_number, number_of, turned}
 pub use Rattle.mark_table.specs.declared.order.Shown.{Shown}
-pub use Rattle.name_list.proofs.ListLaws.{AreApart-insert, Contains-from_stands, get_push_cases, stands_from_Contains}
-pub use Rattle.name_list.proofs.ListLaws.{stands_map, stood_at}
+pub use Rattle.mark_table.specs.declared.order.WidgetMark.{WidgetMark}
+pub use Rattle.name_list.proofs.ListLaws.{AreApart-insert, Contains-from_stands, stands_from_Contains, stands_map}
+pub use Rattle.name_list.proofs.ListLaws.{stood_at}
 pub use Rattle.name_list.specs.Names.{AreApart, AreNames, IsLeastFree, Named, Names, numbers_of}
 pub use Rattle.search_dump.specs.Dump.{dump_elements, name_of_rank, seen_by}
 pub use Rattle.std.proofs.Math.ListN.{replicate}
@@ -126,10 +134,9 @@ pub use Rattle.std.proofs.lemmas.Slice.Eq.{bytes_eq-Decides}
 pub use Rattle.std.proofs.lemmas.Str.{IsUtf8-string_bytes, chars-nil, chars_from_encodes}
 pub use Rattle.std.specs.BTreeMap.{is_at}
 pub use Rattle.std.specs.BTreeSet.{IsUnchanged, contains}
-pub use Rattle.std.specs.Bool.{Decides, OnFalse}
 pub use Rattle.std.specs.Char.{IsScalar}
 pub use Rattle.std.specs.Cmp.{Equal-is, IsTotalOrder, both_ways, nat_cmp_total, tied_itself, unsigned_tied}
-pub use Rattle.std.specs.List.{All, AllByRecursion, cons_option, fold, list_any, position_from}
+pub use Rattle.std.specs.List.{All, AllByRecursion, cons_option, flat_map, fold, list_any, position_from}
 pub use Rattle.std.specs.Option.{option_or}
 pub use Rattle.std.specs.Ordering.{eq_by_cmp, is_eq, nat_cmp}
 pub use Rattle.std.specs.Prelude.{IsUtf8, box_value, codes, is_ok, unwrap_or}
@@ -179,4 +186,4 @@ pub use Rattle.undo_stack.specs.Modified.{counted_down, counted_new, counted_up,
 pub use Rattle.undo_stack.specs.Rings.{Kept}
 pub use Rattle.undo_stack.specs.declared.actions.Action.{Action}
 pub use Rattle.undo_stack.specs.declared.actions.EditKind.{EditKind}
-pub use Rattle.undo_stack.specs.declared.actions.EditKind.TheVariants.{Delete, Insert, Replace}
+pub use Rattle.undo_stack.specs.declared.actions.EditKind.TheVariants.{Delete, Replace}

@@ -3,9 +3,9 @@ use Rattle.documents.proofs.Common.{◌≡◌, ℕ, ◌+◌, ◌<◌, true, List
 use Rattle.documents.proofs.Common.{sym, ap, ap₂, subst, ◌∙◌, arith, append-nil, true≢false, All, map-map, Cell, Named}
 use Rattle.documents.proofs.Common.{Action, AreHunksOf, bare_cells, slotted, Tells, hunk_changes, patched, patched_by}
 use Rattle.documents.proofs.Common.{map-patched, SlotRun, AreSeats, AreTags, Tags, Key, key_pairs, keyed, untagged}
-use Rattle.documents.proofs.Common.{KeyedCell, TellsCells, TellsTags, AreBareRuns, is_turned, TagChange, EditTold}
-use Rattle.documents.proofs.Common.{false, AreGapped, AreRising, TellsRuns, Bool, AreHunks, IfSome, Anchors, Content}
-use Rattle.documents.proofs.Common.{Log, State, IsDelta, IsLostRun, KnowsDelta, bared, hunks_made, lost_run}
+use Rattle.documents.proofs.Common.{KeyedCell, TellsCells, TellsTags, TagChange, EditTold, bare, false, Bool, AreHunks}
+use Rattle.documents.proofs.Common.{IfSome, Anchors, Content, Log, State, IsDelta, IsLostRun, KnowsDelta, bared}
+use Rattle.documents.proofs.Common.{hunks_made, lost_run, AreBareRuns, is_turned, AreGapped, AreRising, TellsRuns}
 use Rattle.edit_ops.specs.Plans.{planned}
 use Rattle.edit_ops.specs.declared.plans.Effects.{Effects}
 use Rattle.edit_ops.specs.declared.deltas.Delta.{Delta}

@@ -4,8 +4,8 @@ use Rattle.documents.proofs.Common.{arith, inl, inr, ◌⊎◌, true≢false, If
 use Rattle.documents.proofs.Common.{position_from, false_from_ne_true, none-some, same_Some, bytes_eq-Decides, Named}
 use Rattle.documents.proofs.Common.{is_among, is_same, Document, Parts, Widget, widget_at, widget_of, Stands}
 use Rattle.documents.proofs.Common.{window_names, widget_named, Option, None, Some, ◌||◌}
-use Rattle.std.proofs.lemmas.Iterator.Adapters.{position_from-zero}
 use Rattle.name_list.specs.Names.{names_of, place_of}
+use Rattle.std.proofs.lemmas.Iterator.Adapters.{position_from-zero}
 use Rattle.documents.proofs.PartsLaws.{widget-is}
 use Rattle.documents.proofs.WellFormedLaws.{windows-kept}
 

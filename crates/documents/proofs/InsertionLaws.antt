@@ -1,12 +1,13 @@
 -- A document after texts with tag lists are put in, or where that is refused.
 use Rattle.documents.proofs.Common.{◌≡◌, ℕ, ◌+◌, ◌<◌, ◌≤◌, true, false, List, None, Some, Ok, map, length, refl, sym}
 use Rattle.documents.proofs.Common.{ap, ap₂, subst, ◌∙◌, arith, IsScalar, All, nat_tests, length-map, AreTags, Tag}
-use Rattle.documents.proofs.Common.{Tags, names_of, AreLimits, LimitTable, Insert, inserted_texts, State, SlottedText}
-use Rattle.documents.proofs.Common.{texts-kept, Empty, Fault, TextTooLong, TooManyTags, excess, Pair, all_names, total}
-use Rattle.documents.proofs.Common.{with_names, recording_of, IsFront, piece_of, is_among, Document, Parts, Widget}
-use Rattle.documents.proofs.Common.{document_of, widget_at, with_texts, Stands, Change, refused, insert_at, keyed_text}
-use Rattle.documents.proofs.Common.{tags_with, within_limits, Anchors, Content, Log, state_of, take, nat_lt}
-use Rattle.documents.proofs.Common.{if◌then◌else◌, edited, Action, [], ◌∷◌, insertion, joined_text}
+use Rattle.documents.proofs.Common.{Tags, AreLimits, LimitTable, inserted_texts, State, SlottedText, texts-kept, Empty}
+use Rattle.documents.proofs.Common.{Fault, TextTooLong, TooManyTags, excess, Pair, all_names, total, with_names}
+use Rattle.documents.proofs.Common.{recording_of, IsFront, piece_of, is_among, Document, Parts, Widget, document_of}
+use Rattle.documents.proofs.Common.{widget_at, with_texts, Stands, Change, refused, insert_at, keyed_text, tags_with}
+use Rattle.documents.proofs.Common.{within_limits, Anchors, Content, Log, state_of, take, nat_lt, if◌then◌else◌, edited}
+use Rattle.documents.proofs.Common.{Action, [], ◌∷◌, insertion, joined_text, names_of}
+use Rattle.undo_stack.specs.declared.actions.EditKind.TheVariants.{Insert}
 use Rattle.documents.proofs.ChangeLaws.{Leaves, does-changed, table-back}
 use Rattle.documents.proofs.KeyedLaws.{keyed-more}
 use Rattle.documents.proofs.KnownLaws.{IsKnownPiece, known-front}

@@ -1,12 +1,12 @@
 -- Keys as loops list them.
-use Rattle.documents.proofs.Common.{◌≡◌, ℕ, ◌+◌, ◌<◌, ◌&&◌, ◌||◌, Bool, true, false, not, List, [], ◌∷◌, ◌++◌, Some}
-use Rattle.documents.proofs.Common.{filter, map, take, length, get_or, refl, sym, ap, ap₂, ◌∙◌, subst, option_map}
-use Rattle.documents.proofs.Common.{All-nil, nat_cmp_total, map-append, same_Some, slice_get-map, Named, numbers_of}
-use Rattle.documents.proofs.Common.{stood_at, Tag, sel, slots_of, Slots, SlotRun, is_same, filter-in, filter-out}
-use Rattle.documents.proofs.Common.{take-found, Key, is_shared, seat_pair, tag_pair, HoldsSlots, TellsRuns, TagChange}
-use Rattle.documents.proofs.Common.{slice_get, All-weaker, or_left, or_right, eq_by_cmp, key_cmp, All-more}
+use Rattle.documents.proofs.Common.{◌≡◌, ℕ, ◌+◌, ◌<◌, Bool, true, false, not, List, [], ◌∷◌, ◌++◌, Some, filter, map}
+use Rattle.documents.proofs.Common.{take, length, get_or, refl, sym, ap, ap₂, ◌∙◌, option_map, map-append, same_Some}
+use Rattle.documents.proofs.Common.{slice_get-map, Named, numbers_of, stood_at, Tag, sel, slots_of, Slots, SlotRun}
+use Rattle.documents.proofs.Common.{is_same, filter-in, filter-out, take-found, Key, is_shared, seat_pair, tag_pair}
+use Rattle.documents.proofs.Common.{TagChange, slice_get, ◌&&◌, ◌||◌, subst, All-nil, nat_cmp_total, HoldsSlots}
+use Rattle.documents.proofs.Common.{TellsRuns, All-weaker, or_left, or_right, eq_by_cmp, key_cmp, All-more, nat_cmp}
+use Rattle.documents.proofs.Common.{true≢false}
 use Rattle.std.specs.Str.{chars}
-use Rattle.documents.proofs.Common.{nat_cmp, true≢false}
 use Rattle.name_list.specs.Names.{names_of}
 use Rattle.tag_table.specs.Tags.{names_of as tag_names}
 use Rattle.text_model.specs.SlotSets.{differing}

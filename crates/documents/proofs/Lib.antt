@@ -1,12 +1,15 @@
+pub mod AbsentMarksLaws
 pub mod AddedRunLaws
 pub mod BackLaws
 pub mod BridgeLaws
 pub mod CarriedLaws
+pub mod CarriedMarksLaws
 pub mod ChangeLaws
 pub mod ClearedLaws
 pub mod Common
 pub mod DeltaLaws
 pub mod EditLeadLaws
+pub mod EditedLaws
 pub mod FindLaws
 pub mod FirstLaws
 pub mod GoneLaws
@@ -20,10 +23,13 @@ pub mod KeyedLaws
 pub mod KnownLaws
 pub mod LeadLaws
 pub mod ListedLaws
+pub mod ListedMarksLaws
 pub mod LookupLaws
+pub mod MarkAtLaws
 pub mod MarkLaws
 pub mod MarkOrderLaws
 pub mod MarkQueryLaws
+pub mod MarkReportLaws
 pub mod MarksToldLaws
 pub mod MeaningLaws
 pub mod NamedLaws
@@ -42,6 +48,7 @@ pub mod ReversalLaws
 pub mod SeatLaws
 pub mod SeatedLaws
 pub mod SeenLaws
+pub mod SettledMarksLaws
 pub mod SlotLaws
 pub mod SlotRunLaws
 pub mod SpanLaws

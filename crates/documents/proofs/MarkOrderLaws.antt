@@ -6,12 +6,11 @@ use Rattle.documents.proofs.Common.{fold, false≢true, nat_tests, map-append, S
 use Rattle.documents.proofs.Common.{Place, Marks, Anchors, new_mark, Document, Parts, SharedMark, Widget, mark_of}
 use Rattle.documents.proofs.Common.{placed, whole, widget_at, IsMarked, Stands, shared_from, shown_at, usable_marks}
 use Rattle.documents.proofs.Common.{origin_in, slice_get, eqb-true, get_or, length, Option, None, Some, option_map}
-use Rattle.documents.proofs.Common.{◌&&◌, ◌||◌, ◌==◌}
+use Rattle.documents.proofs.Common.{◌&&◌, ◌||◌, ◌==◌, WidgetMark}
 use Rattle.std.specs.List.{filter}
 use Rattle.mark_table.specs.declared.order.MarkView.{MarkView}
 use Rattle.mark_table.specs.declared.order.Origin.{Origin}
 use Rattle.mark_table.specs.declared.order.Origin.TheVariants.{Mark as From, Place as Offset}
-use Rattle.mark_table.specs.declared.order.WidgetMark.{WidgetMark}
 use Rattle.mark_table.specs.SharedMarks.{numbers_of}
 use Rattle.documents.proofs.MeaningLaws.{current-is, insert-is}
 use Rattle.documents.proofs.PartsLaws.{Sits, sits}

@@ -3,12 +3,12 @@ use Rattle.documents.proofs.Common.{◌≡◌, ◌≢◌, ℕ, suc, [], ◌+◌,
 use Rattle.documents.proofs.Common.{◌∙◌, arith, inl, inr, slice_get, is_some, option_and_then, unwrap_or, codes}
 use Rattle.documents.proofs.Common.{bytes_eq, nat_lt, if◌then◌else◌, position_from, false≢true, nat_tests}
 use Rattle.documents.proofs.Common.{get_or_from_slice_get, MOST_WIDGETS, Place, Content, SharedMarks, first_number}
-use Rattle.documents.proofs.Common.{number_of, names_of, known_marks, known_tags, own_place, shared_place, shown_mark}
-use Rattle.documents.proofs.Common.{is_word, MeanTheSame, shown_meanings, word_value, new_mark, index_fault}
-use Rattle.documents.proofs.Common.{at_position, literal, is_same, found_tag, Document, Parts, SharedMark, Widget}
-use Rattle.documents.proofs.Common.{mark_of, placed, widget_at, key_named, AreMarked, Stands, mark_number, mark_place}
-use Rattle.documents.proofs.Common.{meanings, place_of, tag_flags, tag_number, Gives, shown, shown_flags, view_end}
-use Rattle.documents.proofs.Common.{view_start, IfOk, Option, None, Some, Result, Ok, Err, option_map, get_or, ◌==◌}
+use Rattle.documents.proofs.Common.{number_of, known_marks, known_tags, own_place, shared_place, shown_mark, is_word}
+use Rattle.documents.proofs.Common.{MeanTheSame, shown_meanings, word_value, new_mark, index_fault, at_position}
+use Rattle.documents.proofs.Common.{literal, is_same, found_tag, Document, Parts, SharedMark, Widget, mark_of, placed}
+use Rattle.documents.proofs.Common.{widget_at, key_named, AreMarked, Stands, mark_number, mark_place, meanings}
+use Rattle.documents.proofs.Common.{place_of, tag_flags, tag_number, Gives, shown, shown_flags, view_end, view_start}
+use Rattle.documents.proofs.Common.{IfOk, Option, None, Some, Result, Ok, Err, option_map, get_or, ◌==◌, names_of}
 use Rattle.std.specs.Str.{chars}
 use Rattle.index_grammar.specs.declared.faults.IndexFault.{IndexFault}
 use Rattle.text_index.proofs.MeaningLaws.{word_value-same}

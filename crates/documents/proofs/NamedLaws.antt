@@ -3,11 +3,11 @@ use Rattle.documents.proofs.Common.{◌≡◌, ℕ, true, false, ◌||◌, ◌+�
 use Rattle.documents.proofs.Common.{length, get_or, refl, sym, ap, ap₂, subst, ◌∙◌, arith, get_or-append-add}
 use Rattle.documents.proofs.Common.{option_map, ◌==◌, IsScalar, All, All-cons, All-head, All-map, All-nil, All-tail}
 use Rattle.documents.proofs.Common.{or_left, or_right, get_or_append_left, list_any-append, sum_by-cons}
-use Rattle.documents.proofs.Common.{bytes_eq-Decides, Named, AreTags, Tag, Tags, names_of, known_tags, Key, keys_of}
-use Rattle.documents.proofs.Common.{key_named, key_pairs, keys_named, AreKnown, AreSeats, SlottedText, Pair, all_names}
+use Rattle.documents.proofs.Common.{bytes_eq-Decides, Named, AreTags, Tag, Tags, known_tags, Key, keys_of, key_named}
+use Rattle.documents.proofs.Common.{key_pairs, keys_named, AreKnown, AreSeats, SlottedText, Pair, all_names}
 use Rattle.documents.proofs.Common.{listed_names, with_name, with_names, piece_of, slots_named, with_found, keyed_text}
 use Rattle.documents.proofs.Common.{is_among, is_same, Widget, KeyedText, slice_get, length-append, IfSome, bytes_eq}
-use Rattle.documents.proofs.Common.{if◌then◌else◌}
+use Rattle.documents.proofs.Common.{if◌then◌else◌, names_of}
 use Rattle.edit_ops.specs.Insertions.{total}
 use Rattle.documents.proofs.BridgeLaws.{keys_of-empty, keys_of-set_slot}
 use Rattle.documents.proofs.KnownLaws.{IsKnownPiece, known-named}

@@ -33,7 +33,6 @@ named-carried limits windows document widget =
     record {
       quiet = record {
         same = kept document refl;
-        turned = λ name old gravity _. kept _ (mark-kept document widget name (record old { gravity = gravity }));
         ordered = λ position order words. carried-reordered (AreNamed windows document) document position order words
             (kept document refl) (λ tags. kept _ refl);
         modified = λ flag. kept _ refl;
@@ -47,17 +46,20 @@ named-carried limits windows document widget =
         untagged = λ names. kept _ refl;
       };
       marked = record {
+        turned = λ name old gravity _. kept _ (mark-kept document widget name (record old { gravity = gravity }));
         set = λ name offset found. kept _ (set-kept limits document widget name offset found);
         unset = λ names. kept _ refl;
       };
-      inserted =
-          λ place pairs _. kept _ (insert-kept limits document widget (insertion_offset document widget place) pairs);
-      replaced = λ from to pairs _ _.
-          kept _ (replace-kept limits document widget (insertion_offset document widget from)
-          (insertion_offset document widget to) pairs);
-      deleted = λ places _ _. kept _ (delete-kept document widget (spans_shown document widget places));
-      undone = kept _ (undo-kept document widget);
-      redone = kept _ (redo-kept document widget);
+      edited = record {
+        inserted =
+            λ place pairs _. kept _ (insert-kept limits document widget (insertion_offset document widget place) pairs);
+        replaced = λ from to pairs _ _.
+            kept _ (replace-kept limits document widget (insertion_offset document widget from)
+            (insertion_offset document widget to) pairs);
+        deleted = λ places _ _. kept _ (delete-kept document widget (spans_shown document widget places));
+        undone = kept _ (undo-kept document widget);
+        redone = kept _ (redo-kept document widget);
+      };
     }
 
 -- ---- one widget more

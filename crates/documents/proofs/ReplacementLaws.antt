@@ -1,14 +1,14 @@
 -- A document after texts have taken the place of cells, or where that is refused.
 use Rattle.documents.proofs.Common.{◌≡◌, ◌≢◌, ℕ, ◌+◌, ◌-◌, ◌*◌, ◌<◌, ◌≤◌, min, List, Ok, Err, map, length, refl, sym}
 use Rattle.documents.proofs.Common.{ap, ap₂, subst, ◌∙◌, arith, nat_lt, option_and_then, slice_get, All, slice_get-map}
-use Rattle.documents.proofs.Common.{Named, numbers_of, Tags, names_of, MOST_CHARS, Place, LimitTable, Replace}
-use Rattle.documents.proofs.Common.{inserted_texts, clipped, removed_span, replaced_span, State, SlottedText}
-use Rattle.documents.proofs.Common.{replaced-kept, Answer, Empty, Fault, Memory, excess, length_replaced, Pair}
-use Rattle.documents.proofs.Common.{all_names, total, with_names, recording_of, piece_of, replace_span, replaced}
-use Rattle.documents.proofs.Common.{with_clipped, Document, Parts, Widget, document_of, mark_of, widget_at, with_texts}
-use Rattle.documents.proofs.Common.{without_span, Stands, with_insert, Change, false, refused, insertion_offset}
-use Rattle.documents.proofs.Common.{is_idle, tags_with, Content, None, Option, Result, Some, option_map, edited, Action}
-use Rattle.documents.proofs.Common.{[], ◌∷◌, insertion, deletion, joined_text, characters}
+use Rattle.documents.proofs.Common.{Named, numbers_of, Tags, MOST_CHARS, Place, LimitTable, Replace, inserted_texts}
+use Rattle.documents.proofs.Common.{clipped, removed_span, replaced_span, State, SlottedText, replaced-kept, Answer}
+use Rattle.documents.proofs.Common.{Empty, Fault, Memory, excess, length_replaced, Pair, all_names, total, with_names}
+use Rattle.documents.proofs.Common.{recording_of, piece_of, replace_span, replaced, with_clipped, Document, Parts}
+use Rattle.documents.proofs.Common.{Widget, document_of, mark_of, widget_at, with_texts, without_span, Stands}
+use Rattle.documents.proofs.Common.{with_insert, Change, false, refused, insertion_offset, is_idle, tags_with, Content}
+use Rattle.documents.proofs.Common.{None, Option, Result, Some, option_map, edited, Action, [], ◌∷◌, insertion}
+use Rattle.documents.proofs.Common.{deletion, joined_text, characters, names_of}
 use Rattle.edit_ops.specs.Removals.{with_mark}
 use Rattle.edit_ops.proofs.ReplaceLaws.{found-within}
 use Rattle.documents.proofs.ChangeLaws.{Leaves, does-changed}

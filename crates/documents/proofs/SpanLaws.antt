@@ -1,11 +1,11 @@
 -- A document after a tag is put on spans or taken off them, or where that is refused.
 use Rattle.documents.proofs.Common.{◌≡◌, ℕ, ◌+◌, ◌-◌, ◌<◌, ◌≤◌, Bool, true, false, List, Option, None, Some, Ok, length}
 use Rattle.documents.proofs.Common.{refl, sym, ap, ap₂, subst, ◌∙◌, arith, ◌==◌, option_map, none-some, same_Some, All}
-use Rattle.documents.proofs.Common.{nat_tests, length-map, known_tags, AreTags, Tag, Tags, names_of, slot_of, Content}
-use Rattle.documents.proofs.Common.{LimitTable, Log, SpanFits, tagged, Span, Empty, TooManyTags, with_name, spans_of}
-use Rattle.documents.proofs.Common.{IsFront, is_among, absent_slot, among_slot, spans_of-fit, Document, Parts}
-use Rattle.documents.proofs.Common.{document_of, widget_at, with_tag, Key, key_named, Stands, Change, Does, answered}
-use Rattle.documents.proofs.Common.{refused, spans_shown, add_spans, remove_spans, shown, nat_lt, if◌then◌else◌}
+use Rattle.documents.proofs.Common.{nat_tests, length-map, known_tags, AreTags, Tag, Tags, slot_of, Content, LimitTable}
+use Rattle.documents.proofs.Common.{Log, SpanFits, tagged, Span, Empty, TooManyTags, with_name, spans_of, IsFront}
+use Rattle.documents.proofs.Common.{is_among, absent_slot, among_slot, spans_of-fit, Document, Parts, document_of}
+use Rattle.documents.proofs.Common.{widget_at, with_tag, Key, key_named, Stands, Change, Does, answered, refused}
+use Rattle.documents.proofs.Common.{spans_shown, add_spans, remove_spans, shown, nat_lt, if◌then◌else◌, names_of}
 use Rattle.documents.proofs.ChangeLaws.{Leaves, does-nothing}
 use Rattle.documents.proofs.KeyedLaws.{keyed-more, keyed-tagged}
 use Rattle.documents.proofs.KnownLaws.{known-front, known-slot}

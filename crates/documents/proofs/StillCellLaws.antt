@@ -36,7 +36,6 @@ module _ (limits : LimitTable) (document : Document) (widget : Widget) where
   pub cells-quiet : IsQuiet limits document widget (HasCellsOf document)
   cells-quiet = record {
     same = refl;
-    turned = λ name old gravity _. cells-mark name (record old { gravity = gravity });
     ordered = λ position order words. carried-reordered (HasCellsOf document) document position order words refl
         (λ tags. refl);
     modified = λ flag. refl;
@@ -47,6 +46,7 @@ module _ (limits : LimitTable) (document : Document) (widget : Widget) where
 
   pub cells-marked : IsMarked limits document widget (HasCellsOf document)
   cells-marked = record {
+    turned = λ name old gravity _. cells-mark name (record old { gravity = gravity });
     set = λ name offset found. cells-set name offset found;
     unset = λ names. refl;
   }

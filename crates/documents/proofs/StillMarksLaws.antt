@@ -1,91 +1,74 @@
--- Commands that are no edit of the text and move no mark leave each mark where a widget sees it.
-use Rattle.documents.proofs.Common.{◌≡◌, ℕ, ◌+◌, Bool, true, false, List, ◌∷◌, [], Some, length, refl, ap, ap₂, sym}
-use Rattle.documents.proofs.Common.{◌∙◌, option_map, option_or, find-append, LimitTable, Place, separated, Empty}
-use Rattle.documents.proofs.Common.{TooManyTags, Settings, with_name, is_among, is_same, literal, Document, SharedMark}
-use Rattle.documents.proofs.Common.{Widget, with_tag, modified_set, MarksTold, offset_seen, key_of, widget_set}
-use Rattle.documents.proofs.Common.{with_settings, answered, refused, spans_shown, add_spans, remove_spans, tag_delete}
-use Rattle.documents.proofs.Common.{new_widget, widget_named, with_peer, find, nat_lt, option_and_then, if◌then◌else◌}
+-- Commands that are no edit of the text and set no mark leave each mark where it is.
+use Rattle.documents.proofs.Common.{◌≡◌, ℕ, ◌+◌, true, false, List, [], length, refl, ap, option_map, find, nat_lt}
+use Rattle.documents.proofs.Common.{if◌then◌else◌, LimitTable, separated, Empty, TooManyTags, Settings, with_name}
+use Rattle.documents.proofs.Common.{is_among, is_same, Document, SharedMark, Widget, with_tag, modified_set, key_of}
+use Rattle.documents.proofs.Common.{widget_set, with_settings, answered, refused, spans_shown, add_spans, remove_spans}
+use Rattle.documents.proofs.Common.{tag_delete, HasMarksBut, mark_at}
 use Rattle.documents.proofs.CarriedLaws.{IsQuiet, IsTagged, carried-reordered}
-use Rattle.documents.proofs.MarksToldLaws.{put-still, seen-found, told-none, widget-changed}
+use Rattle.documents.proofs.MarkReportLaws.{by-kind, own-kept}
 
--- a document in which the widget of a name sees each mark where it saw it in another one
-abbrev pub HasMarksOf : List ℕ → Document → Document → Type 0
-HasMarksOf window old new = (name : List ℕ) → offset_seen window new name ≡ offset_seen window old name
+-- a document with the same marks and the same widgets
+pub marks-alike : (document new : Document) → new.widgets ≡ document.widgets → new.marks ≡ document.marks →
+    HasMarksBut [] document new
+marks-alike document new widgets marks key _ =
+    by-kind (λ key. mark_at new key ≡ mark_at document key)
+    (λ name. ap (λ (ws : List Widget). option_map (λ (w : Widget). w.insert)
+    (find (λ (w : Widget). is_same w.name name) ws)) widgets)
+    (λ name. ap (λ (ws : List Widget). option_map (λ (w : Widget). w.current)
+    (find (λ (w : Widget). is_same w.name name) ws)) widgets)
+    (λ name. ap (λ (ms : List SharedMark). option_map (λ (m : SharedMark). m.place)
+    (find (λ (m : SharedMark). is_same name m.name) ms)) marks) key
 
-module _ (window : List ℕ) (document : Document) where
-  -- a document with the same marks and the same widgets
-  alike : (new : Document) → new.widgets ≡ document.widgets → new.marks ≡ document.marks
-      → HasMarksOf window document new
-  alike new widgets marks name =
-      ap₂ (λ (ws : List Widget) (ms : List SharedMark). option_and_then (λ (widget : Widget).
-      option_map (λ (place : Place). place.offset) (if is_same name (literal "insert") then Some widget.insert
-      else (if is_same name (literal "current") then Some widget.current
-      else option_map (λ (mark : SharedMark). mark.place)
-      (find (λ (mark : SharedMark). is_same name mark.name) ms))))
-      (find (λ (widget : Widget). is_same widget.name window) ws)) widgets marks
+marks-added : (document : Document) (limits : LimitTable) (widget : Widget) (name places : List ℕ) →
+    HasMarksBut [] document (add_spans limits document widget name places).document
+marks-added document limits widget name places =
+    let tags = with_name document.tags name in
+    let made : Document = record document {
+      tags = tags;
+      cells = with_tag (key_of widget name) true (spans_shown document widget places) document.cells;
+    } in
+    elim (nat_lt (limits.tags + 1) (length tags)) as (λ b.
+    HasMarksBut [] document (if b then refused document TooManyTags else answered made Empty).document)
+    [ true ↦ λ key _. refl | false ↦ marks-alike document made refl refl ]
 
-  marks-added : (limits : LimitTable) (widget : Widget) (name places : List ℕ)
-      → HasMarksOf window document (add_spans limits document widget name places).document
-  marks-added limits widget name places =
-      let tags = with_name document.tags name in
-      let made : Document = record document {
-        tags = tags;
-        cells = with_tag (key_of widget name) true (spans_shown document widget places) document.cells;
-      } in
-      elim (nat_lt (limits.tags + 1) (length tags)) as (λ b.
-      HasMarksOf window document (if b then refused document TooManyTags else answered made Empty).document)
-      [ true ↦ λ word. refl | false ↦ alike made refl refl ]
+marks-removed : (document : Document) (widget : Widget) (name places : List ℕ) →
+    HasMarksBut [] document (remove_spans document widget name places).document
+marks-removed document widget name places =
+    let made : Document = record document {
+      cells = with_tag (key_of widget name) false (spans_shown document widget places) document.cells;
+    } in
+    elim (is_among name document.tags) as (λ b. HasMarksBut [] document (if b then made else document))
+    [ true ↦ marks-alike document made refl refl | false ↦ λ key _. refl ]
 
-  marks-removed : (widget : Widget) (name places : List ℕ)
-      → HasMarksOf window document (remove_spans document widget name places).document
-  marks-removed widget name places =
-      let made : Document = record document {
-        cells = with_tag (key_of widget name) false (spans_shown document widget places) document.cells;
-      } in
-      elim (is_among name document.tags) as (λ b. HasMarksOf window document (if b then made else document))
-      [ true ↦ alike made refl refl | false ↦ λ word. refl ]
+pub marks-tagged : (document : Document) (limits : LimitTable) (widget : Widget) →
+    IsTagged limits document widget (HasMarksBut [] document)
+marks-tagged document limits widget = record {
+  added = λ name places. marks-added document limits widget name places;
+  removed = λ name places. marks-removed document widget name places;
+  untagged = λ names. marks-alike document (tag_delete document names).document refl refl;
+}
 
-  pub marks-tagged : (limits : LimitTable) (widget : Widget)
-      → IsTagged limits document widget (HasMarksOf window document)
-  marks-tagged limits widget = record {
-    added = λ name places. marks-added limits widget name places;
-    removed = λ name places. marks-removed widget name places;
-    untagged = λ names. alike (tag_delete document names).document refl refl;
-  }
+pub marks-quiet : (document : Document) (limits : LimitTable) (widget : Widget) →
+    IsQuiet limits document widget (HasMarksBut [] document)
+marks-quiet document limits widget = record {
+  same = λ key _. refl;
+  ordered = λ position order words. carried-reordered (HasMarksBut [] document) document position order words
+      (λ key _. refl) (λ tags. marks-alike document (record document { tags = tags }) refl refl);
+  modified = λ flag. marks-alike document (modified_set document flag).document refl refl;
+  separated = elim document.undo as (λ b. HasMarksBut [] document
+      (if b then record document { history = separated document.history } else document)) [
+        | true ↦ marks-alike document (record document { history = separated document.history }) refl refl
+        | false ↦ λ key _. refl
+      ];
+}
 
-  -- ---- the widget of a command
-
-  module _ (widget : Widget) (found : widget_named window document ≡ Some widget) where
-    pub marks-quiet : (limits : LimitTable) → IsQuiet limits document widget (HasMarksOf window document)
-    marks-quiet limits = record {
-      same = λ word. refl;
-      turned = λ name old gravity there. put-still document widget name (record old { gravity = gravity }) window found
-          old there refl;
-      ordered = λ position order words. carried-reordered (HasMarksOf window document) document position order words
-          (λ word. refl) (λ tags. alike (record document { tags = tags }) refl refl);
-      modified = λ flag. alike (modified_set document flag).document refl refl;
-      separated = elim document.undo as (λ b. HasMarksOf window document
-          (if b then record document { history = separated document.history } else document))
-          [ true ↦ alike (record document { history = separated document.history }) refl refl | false ↦ λ word. refl ];
-    }
-
-    -- options of its own
-    pub marks-configured : (settings : Settings) → HasMarksOf window document (with_settings widget settings document)
-    marks-configured settings name =
-        seen-found window (with_settings widget settings document) (widget_set document settings widget) name
-        (widget-changed window document widget (widget_set document settings) (λ other. refl) found)
-        ∙ sym (seen-found window document widget name found)
-
-    -- one widget more
-    pub marks-peered : (name : List ℕ) (settings : Settings) →
-        HasMarksOf window document (with_peer name settings document)
-    marks-peered name settings word =
-        let other = new_widget document name settings in
-        let test : Widget → Bool = λ widget. is_same widget.name window in
-        seen-found window (with_peer name settings document) widget word
-        (find-append test document.widgets (other ∷ []) ∙ ap (λ f. option_or f (find test (other ∷ []))) found)
-        ∙ sym (seen-found window document widget word found)
-
-  -- nothing is told where each mark stays
-  pub told-still : (new : Document) → HasMarksOf window document new → MarksTold window document new []
-  told-still new same = told-none window document new same
+-- options of a widget's own
+pub marks-configured : (document : Document) (widget : Widget) (settings : Settings) →
+    HasMarksBut [] document (with_settings widget settings document)
+marks-configured document widget settings key _ =
+    by-kind (λ key. mark_at (with_settings widget settings document) key ≡ mark_at document key)
+    (λ name. own-kept (λ (w : Widget). w.insert) name widget (widget_set document settings) document.widgets
+    (λ other. refl) (λ other. refl))
+    (λ name. own-kept (λ (w : Widget). w.current) name widget (widget_set document settings) document.widgets
+    (λ other. refl) (λ other. refl))
+    (λ name. refl) key

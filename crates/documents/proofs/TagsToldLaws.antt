@@ -1,10 +1,10 @@
--- Changes of tags, one after the other.
+-- Changes of tags, one after the other, and what puts keys on characters that have none or takes all keys off.
 use Rattle.documents.proofs.Common.{◌≡◌, ℕ, ◌+◌, ◌-◌, ◌≤◌, Bool, true, false, cond, ◌||◌, List, [], ◌∷◌, ◌++◌, map}
 use Rattle.documents.proofs.Common.{length, take, drop, refl, sym, ap, ◌∙◌, arith, subst, append_assoc, true≢false}
 use Rattle.documents.proofs.Common.{slice_range, All, eq_by_cmp, length-append, length-drop, length-map, length-take-le}
 use Rattle.documents.proofs.Common.{drop_at, drop-drop, take_at, changed, Cell, changed-same, map-changed}
-use Rattle.documents.proofs.Common.{length-changed, AreBareRuns, SlotRun, KeyedCell, characters, with_key, Key, Keys}
-use Rattle.documents.proofs.Common.{key_cmp, set_key, TellsTags, TagChange}
+use Rattle.documents.proofs.Common.{length-changed, AreBareRuns, SlotRun, KeyedCell, characters, bare, with_key, Key}
+use Rattle.documents.proofs.Common.{Keys, key_cmp, set_key, TellsTags, TagChange}
 use Rattle.documents.proofs.BridgeLaws.{contains-set_key, key_tied, keys_same}
 use Rattle.std.specs.FinSet as set
 

@@ -2,11 +2,11 @@
 use Rattle.documents.proofs.Common.{◌≡◌, ℕ, suc, ◌+◌, ◌*◌, ◌≤◌, true, false, List, [], ◌∷◌, length, refl, sym, ap}
 use Rattle.documents.proofs.Common.{subst, ◌∙◌, arith, inl, inr, false_from_ne_true, length-map, bytes_eq-Decides}
 use Rattle.documents.proofs.Common.{AllByRecursion, slice_get, if◌then◌else◌, IfSome, unwrap_or, Cell, IsDocument}
-use Rattle.documents.proofs.Common.{LimitTable, IsLineStart, AreApart, Named, Tag, Tags, AreTags, names_of, FitsText}
-use Rattle.documents.proofs.Common.{AreAnchored, is_same, is_among, AreApart-head, AreApart-tail, found_tag, Key, keyed}
-use Rattle.documents.proofs.Common.{Document, Parts, Widget, anchors_at, characters, document_of, whole, widget_of}
-use Rattle.documents.proofs.Common.{IsSeated, IsSound, is_window_name, belongs, HasItsKeys, IsPlaced}
-use Rattle.documents.proofs.Common.{IsWellFormedDocument, window_names, ◌&&◌, not, map, None, Some}
+use Rattle.documents.proofs.Common.{LimitTable, IsLineStart, AreApart, Named, Tag, Tags, AreTags, FitsText, AreAnchored}
+use Rattle.documents.proofs.Common.{is_same, is_among, AreApart-head, AreApart-tail, found_tag, Key, keyed, Document}
+use Rattle.documents.proofs.Common.{Parts, Widget, anchors_at, characters, document_of, whole, widget_of, IsSeated}
+use Rattle.documents.proofs.Common.{IsSound, is_window_name, belongs, HasItsKeys, IsPlaced, IsWellFormedDocument}
+use Rattle.documents.proofs.Common.{window_names, ◌&&◌, not, map, None, Some, names_of}
 use Rattle.std.specs.List.{IsDistinct}
 use Rattle.name_list.specs.Names.{names_of as names_of_seats}
 use Rattle.mark_table.specs.SharedMarks.{names_of as names_of_marks}

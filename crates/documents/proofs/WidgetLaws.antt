@@ -8,9 +8,9 @@ use Rattle.documents.proofs.Common.{is_same, Empty, history_under, is_behind, Se
 use Rattle.documents.proofs.Common.{Widget, anchors_at, characters, document_of, whole, widget_at, widget_of, IsSeated}
 use Rattle.documents.proofs.Common.{Stands, answered, AreLines, IsLine, anchor_at, settings_of, widget_set}
 use Rattle.documents.proofs.Common.{with_settings, window_names, filter, not, option_map, Option, None, Some}
+use Rattle.name_list.specs.Names.{names_of}
 use Rattle.text_index.proofs.ViewLaws.{line_of-within}
 use Rattle.text_model.proofs.LineLaws.{line_start-le, lines-cons, lines-le-length}
-use Rattle.name_list.specs.Names.{names_of}
 use Rattle.documents.proofs.ChangeLaws.{Leaves, does-changed}
 use Rattle.documents.proofs.JournalLaws.{fits-under, orderly-under, with_kept}
 use Rattle.documents.proofs.MarkLaws.{slot-there, widgets-put}

@@ -92,8 +92,6 @@ pub leads-carried : (limits : LimitTable) (start : List ℕ) (document : Documen
 leads-carried limits start document widget leads anchored = record {
   quiet = record {
     same = leads;
-    turned = λ name old gravity _.
-        leads-mark limits.chars start document widget name (record old { gravity = gravity }) leads;
     ordered = λ position order words. carried-reordered (Leads limits.chars start) document position order words leads
         (λ tags. leads-still leads refl refl refl refl refl);
     modified = λ flag. leads-modified limits.chars start document flag leads;
@@ -105,20 +103,24 @@ leads-carried limits start document widget leads anchored = record {
     untagged = λ names. leads-untagged limits.chars start document names leads;
   };
   marked = record {
+    turned = λ name old gravity _.
+        leads-mark limits.chars start document widget name (record old { gravity = gravity }) leads;
     set = λ name offset found. leads-set limits limits.chars start document widget name offset found leads;
     unset = λ names. leads-unset limits.chars start document names leads;
   };
-  inserted = λ place pairs busy. leads-inserted limits start document widget (insertion_offset document widget place)
-      pairs leads
-      (offset-inside document widget place (active document widget anchored busy));
-  replaced =
-      λ from to pairs busy ordered. leads-replaced limits start document widget (insertion_offset document widget from)
-      (insertion_offset document widget to) pairs leads
-      (omega (arith, ordered)) (offset-inside document widget to (active document widget anchored busy));
-  deleted = λ places busy within.
-      let is = active document widget anchored busy in
-      leads-deleted limits.chars start document widget (spans_shown document widget places) leads is
-      (spans-inside document widget places is (within is.within));
-  undone = leads-undo limits.chars start document widget leads;
-  redone = leads-redo limits.chars start document widget leads;
+  edited = record {
+    inserted = λ place pairs busy. leads-inserted limits start document widget (insertion_offset document widget place)
+        pairs leads
+        (offset-inside document widget place (active document widget anchored busy));
+    replaced =
+        λ from to pairs busy ordered. leads-replaced limits start document widget (insertion_offset document widget from)
+        (insertion_offset document widget to) pairs leads
+        (omega (arith, ordered)) (offset-inside document widget to (active document widget anchored busy));
+    deleted = λ places busy within.
+        let is = active document widget anchored busy in
+        leads-deleted limits.chars start document widget (spans_shown document widget places) leads is
+        (spans-inside document widget places is (within is.within));
+    undone = leads-undo limits.chars start document widget leads;
+    redone = leads-redo limits.chars start document widget leads;
+  };
 }

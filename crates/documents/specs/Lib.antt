@@ -7,6 +7,7 @@ pub mod Inside
 pub mod Kept
 pub mod Keys
 pub mod Marks
+pub mod MarksListed
 pub mod MarksTold
 pub mod Names
 pub mod Options

@@ -1,60 +1,99 @@
--- What is told of a command: the names of the marks that it moves, unless it is refused.
-use Rattle.std.specs.Prelude.{◌≡◌, ◌≢◌, ℕ, ◌+◌, Bool, true, false, is_ok, List, Option, Some}
-use Rattle.std.specs.Prelude.{Result, IfOk, option_and_then, option_map}
+-- Which marks a report has: those that its changes of the text alone would not take to where they are.
+use Rattle.std.specs.Prelude.{◌≡◌, ◌≢◌, ◌≤◌, ℕ, ◌+◌, ◌^◌, List, [], ◌∷◌, ◌++◌, length, find, flat_map, map, ⊤}
+use Rattle.std.specs.Prelude.{Option, IfSome, option_map, if◌then◌else◌}
 use Rattle.std.specs.List.{All}
+use Rattle.text_model.specs.Splices.{drawn, moved}
 use Rattle.text_model.specs.declared.places.Place.{Place}
-use Rattle.name_list.specs.Names.{AreApart}
-use Rattle.command_effects.specs.Words.{is_among}
-use Rattle.command_effects.specs.declared.answers.Fault.{Fault}
-use Rattle.documents.specs.Documents.{Document, Widget}
-use Rattle.documents.specs.Marks.{place_named}
-use Rattle.documents.specs.Names.{mark_number}
-use Rattle.documents.specs.Promise.{Change}
+use Rattle.edit_ops.specs.Told.{AreFalling, Tells}
+use Rattle.edit_ops.specs.declared.changes.TextChange.{TextChange}
+use Rattle.command_effects.specs.Words.{is_same, literal}
+use Rattle.documents.specs.Documents.{characters, Document, SharedMark, Widget}
 use Rattle.documents.specs.Widgets.{widget_named}
+use Rattle.documents.specs.declared.mark_lists.MarkChange.{MarkChange}
+use Rattle.documents.specs.declared.mark_lists.MarkKey.{MarkKey}
+use Rattle.documents.specs.declared.mark_lists.MarkKind.{MarkKind}
+use Rattle.documents.specs.declared.mark_lists.MarkKind.TheVariants.{Insert, Current, Shared}
 
--- where the mark of a name stands to a widget, if it is there, whatever its gravity
-abbrev pub offset_named : Document → Widget → List ℕ → Option ℕ
-offset_named document widget name = option_map (λ (place : Place). place.offset) (place_named document widget name)
+-- the marks of a document: two of each widget, by the widget's name, and the shared ones, by their own
+abbrev pub place_of_kind : MarkKind → List ℕ → Document → Option Place
+place_of_kind Insert name document = option_map (λ (widget : Widget). widget.insert) (widget_named name document)
+place_of_kind Current name document = option_map (λ (widget : Widget). widget.current) (widget_named name document)
+place_of_kind Shared name document =
+    option_map (λ (mark : SharedMark). mark.place) (find (λ (mark : SharedMark). is_same name mark.name) document.marks)
 
--- where it stands to the widget of a name
-abbrev pub offset_seen : List ℕ → Document → List ℕ → Option ℕ
-offset_seen window document name =
-    option_and_then (λ (widget : Widget). offset_named document widget name) (widget_named window document)
+-- where the mark of a key is, if there is one
+abbrev pub mark_at : Document → MarkKey → Option Place
+mark_at document key = place_of_kind key.kind key.name document
 
--- These are the names of the marks that were moved, made or taken away between two documents, each once, as the widget
--- of a name knows marks.
-pub record MarksTold (window : List ℕ) (old new : Document) (names : List (List ℕ)) : Type 0 where
-  pub apart : AreApart names
-  pub moved : All (λ name. offset_seen window new name ≢ offset_seen window old name) names
-  pub stay : (name : List ℕ) → is_among name names ≡ false →
-      offset_seen window new name ≡ offset_seen window old name
+-- where a change of the text alone takes a mark: by its deletion, and then by its insertion
+abbrev pub carried : TextChange → Place → Place
+carried change place =
+    moved change.at (length change.inserted) (drawn change.at (change.at + change.removed) place)
 
--- where a command of a widget is answered, these are the names of the marks that it moved
-abbrev pub ForetellsMarks : Document → Widget → Change → List (List ℕ) → Type 0
-ForetellsMarks document widget change names =
-    is_ok change.reply ≡ true → (window : List ℕ) → widget_named window document ≡ Some widget
-    → MarksTold window document change.document names
+abbrev pub carried_all : List TextChange → Place → Place
+carried_all [] place = place
+carried_all (change ∷ changes) place = carried_all changes (carried change place)
 
--- who follows the text is told which marks a command of a widget moved, unless it is refused
-abbrev pub AreMarksTold : Bool → Document → Document → Widget → Result (List (List ℕ)) Fault → Type 0
-AreMarksTold follows old new widget result =
-    follows ≡ true → IfOk result (λ names. (window : List ℕ) → widget_named window old ≡ Some widget
-    → MarksTold window old new names)
+-- where changes of the text alone take the mark of a key
+abbrev pub mark_carried : List TextChange → Document → MarkKey → Option Place
+mark_carried changes document key = option_map (carried_all changes) (mark_at document key)
 
--- ---- names that are gathered from words
+-- A mark is somewhere else than where changes of the text alone take it, has another gravity, is new, or is gone.
+pub record IsMarkChange (changes : List TextChange) (old new : Document) (change : MarkChange) : Type 0 where
+  pub before : change.old ≡ mark_at old change.key
+  pub after : change.new ≡ mark_at new change.key
+  pub differs : mark_at new change.key ≢ mark_carried changes old change.key
 
--- a word that is the name of a shared mark
-abbrev pub IsSharedName : Document → List (List ℕ) → List ℕ → Type 0
-IsSharedName document words name =
-    (is_among name words ≡ true) × (number : ℕ) × (mark_number document name ≡ Some (2 + number))
+-- a list doesn't have a key
+abbrev pub AreOthers : MarkKey → List MarkChange → Type 0
+AreOthers key marks = All (λ (mark : MarkChange). mark.key ≢ key) marks
 
--- These are the names of shared marks among some words, each once, where of each shared mark is known by its number
--- whether it was seen.
-pub record AreGathered (document : Document) (words : List (List ℕ)) (seen : ℕ → Bool)
-    (names : List (List ℕ)) : Type 0 where
-  pub apart : AreApart names
-  pub shared : All (IsSharedName document words) names
-  pub known : (number : ℕ) (name : List ℕ) → mark_number document name ≡ Some (2 + number) →
-      seen number ≡ is_among name names
-  pub all : (number : ℕ) (name : List ℕ) → mark_number document name ≡ Some (2 + number) →
-      is_among name words ≡ true → is_among name names ≡ true
+-- each key is in a list at most once
+abbrev pub AreSingle : List MarkChange → Type 0
+AreSingle [] = ⊤
+AreSingle (mark ∷ marks) = AreOthers mark.key marks × AreSingle marks
+
+-- These are the marks, each once, that changes of the text alone don't take to where they are.
+pub record TellsMarks (changes : List TextChange) (old new : Document) (marks : List MarkChange) : Type 0 where
+  pub each : All (IsMarkChange changes old new) marks
+  pub single : AreSingle marks
+  pub others : (key : MarkKey) → AreOthers key marks → mark_at new key ≡ mark_carried changes old key
+
+-- every mark but those of a list is where it was
+abbrev pub HasMarksBut : List MarkChange → Document → Document → Type 0
+HasMarksBut marks old new = (key : MarkKey) → AreOthers key marks → mark_at new key ≡ mark_at old key
+
+-- ---- marks that a command may displace
+
+-- a mark as it is before a command
+abbrev pub watched : Document → MarkKey → MarkChange
+watched document key = record { key = key; old = mark_at document key; new = mark_at document key }
+
+-- Marks are listed as they are in a document, each once.
+pub record AreWatched (document : Document) (marks : List MarkChange) : Type 0 where
+  pub each : All (λ (mark : MarkChange). mark ≡ watched document mark.key) marks
+  pub single : AreSingle marks
+
+-- the marks of a widget, and of a document
+abbrev pub own_keys : List ℕ → List MarkKey
+own_keys name = record { kind = Insert; name = name } ∷ record { kind = Current; name = name } ∷ []
+
+abbrev pub mark_keys : Document → List MarkKey
+mark_keys document =
+    flat_map (λ (widget : Widget). own_keys widget.name) document.widgets
+    ++ map (λ (mark : SharedMark). record { kind = Shared; name = mark.name }) document.marks
+
+-- the mark that a widget knows by a name
+abbrev pub mark_key : Widget → List ℕ → MarkKey
+mark_key widget name =
+    if is_same name (literal "insert") then record { kind = Insert; name = widget.name }
+    else (if is_same name (literal "current") then record { kind = Current; name = widget.name }
+    else record { kind = Shared; name = name })
+
+-- Changes of the text make the characters of one document of those of another, both of a length that a machine counts,
+-- and the last position comes first; the marks are in the text.
+pub record AreCarried (changes : List TextChange) (old new : Document) : Type 0 where
+  pub tells : Tells changes (characters old.cells) (characters new.cells)
+  pub falling : AreFalling changes
+  pub short : (length old.cells ≤ 2 ^ 60) × (length new.cells ≤ 2 ^ 60)
+  pub stand : (key : MarkKey) → IfSome (mark_at old key) (λ place. place.offset ≤ length old.cells)

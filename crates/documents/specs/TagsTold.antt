@@ -113,7 +113,8 @@ in_run slot runs at = list_any (λ (run : SlotRun).
 
 -- and so for a key, by the slot that a pair knows it by
 abbrev pub in_key_run : Key → List (ℕ × Key) → List SlotRun → ℕ → Bool
-in_key_run key pairs runs at = list_any (λ (pair : ℕ × Key). eq_by_cmp key_cmp key pair.1 && in_run pair.0 runs at) pairs
+in_key_run key pairs runs at =
+    list_any (λ (pair : ℕ × Key). eq_by_cmp key_cmp key pair.1 && in_run pair.0 runs at) pairs
 
 -- runs that aren't empty, from an offset on, each behind the one before it
 abbrev pub AreRising : ℕ → List SlotRun → Type 0

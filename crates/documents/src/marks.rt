@@ -1,7 +1,7 @@
 ghost use Rattle.std.specs.Prelude.{◌≡◌, true, None, Some, is_some, ◌+◌, ◌-◌, ◌<◌, ◌≤◌, min, length, chars, option_map};
 ghost use Rattle.std.specs.Prelude.{Ok, Err, IfOk, [], IfSome, slice_index_or};
 ghost use Rattle.text_model.specs.LimitTable.{LimitTable};
-ghost use Rattle.documents.specs.Documents.{Widget, widget_at};
+ghost use Rattle.documents.specs.Documents.{widget_at};
 ghost use Rattle.documents.specs.Views.{shown};
 ghost use Rattle.documents.specs.Promise.{Does, answered};
 ghost use Rattle.command_effects.specs.declared.answers.Fault.TheVariants.{Memory};
@@ -14,12 +14,8 @@ ghost use Rattle.documents.specs.Marks.{origin_in};
 ghost use Rattle.command_effects.specs.Marking.{gravity_word as spec_gravity_word};
 ghost use Rattle.documents.specs.Marks.{mark_names, mark_offset, mark_unset, place_named, set_found, usable_marks};
 ghost use Rattle.documents.specs.Marks.{with_current, with_insert, with_mark, with_shared};
-ghost use Rattle.documents.specs.MarksTold.{AreMarksTold};
-ghost use Rattle.documents.specs.Told.{reply_of};
 
-use crate::callers::Caller;
 use crate::documents::Document;
-use crate::marks_told::MovedMarks;
 use crate::views::mark_view_of;
 use command_effects::{
     Answer, Fault, gravity_word, is_word, make_mark, numbers_named, push_mark_names, put_mark,
@@ -272,22 +268,16 @@ impl<S: TextStore> Document<S> {
         }
     }
 
-    /// Takes the shared marks of these names out. The widget's own and unknown names are skipped. Which marks it takes.
-    pub fn unset_marks(
-        &mut self,
-        caller: &Caller<'_>,
-        names: &[String],
-    ) -> Result<MovedMarks, Fault>
-        ensures does { (limits : LimitTable) → Does limits self.old self.new (reply_of result)
+    /// Takes the shared marks of these names out. The widget's own and unknown names are skipped.
+    pub fn unset_marks(&mut self, names: &[String]) -> Result<Answer, Fault>
+        ensures { (limits : LimitTable) → Does limits self.old self.new result
             (mark_unset self.old (texts_of names.now)) }
-        ensures told { (widget : Widget) → AreMarksTold caller.now.follows self.old self.new widget result }
     {
-        let told = self.told_mark_unset(caller, names)?;
         let numbers = numbers_named(self.alloc, &self.marks, names)?;
         take_marks(self.alloc, &mut self.text.store, &numbers)?;
         unset_names(&mut self.marks, names);
         // Where the marks are counted, they are known to be those of a table.
         let _count = self.marks.len();
-        Ok(told)
+        Ok(Answer::Empty)
     }
 }

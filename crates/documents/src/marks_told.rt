@@ -1,156 +1,162 @@
-//! Reports of marks: the names of those that a command moves.
+//! Reports of marks: which marks a command may displace, and which of them it did.
 
-ghost use Rattle.std.specs.Prelude.{◌≡◌, ◌≢◌, ◌+◌, ◌<◌, ◌≤◌, ◌++◌, ◌∷◌, [], ℕ, List, Some, true, chars, length};
-ghost use Rattle.std.specs.Prelude.{IfOk, MatchOption, OnOk};
-ghost use Rattle.std.specs.Bool.{Decides};
+ghost use Rattle.std.specs.Prelude.{◌≡◌, ◌<◌, ◌++◌, ◌∷◌, [], ℕ, List, chars, length, map, IfOk, OnOk};
 ghost use Rattle.std.specs.BTreeSet.{contains};
 ghost use Rattle.std.specs.Ordering.{nat_cmp};
 ghost use Rattle.tcl_words.specs.Unread.{texts_of};
-ghost use Rattle.text_model.specs.LimitTable.{LimitTable};
-ghost use Rattle.documents.specs.Documents.{Widget, widget_at};
-ghost use Rattle.documents.specs.Marks.{mark_offset, mark_unset, place_named, set_found};
-ghost use Rattle.documents.specs.MarksTold.{AreGathered, ForetellsMarks, offset_named};
-ghost use Rattle.documents.specs.Names.{mark_number};
-ghost use Rattle.documents.specs.Views.{shown};
+ghost use Rattle.documents.specs.Documents.{Document as DocumentState, widget_at};
+ghost use Rattle.documents.specs.Marks.{mark_unset};
+ghost use Rattle.documents.specs.MarksListed.{AreListed, IsSettled};
+ghost use Rattle.documents.specs.MarksTold.{AreCarried, AreOthers, AreWatched, HasMarksBut, TellsMarks};
+ghost use Rattle.documents.specs.MarksTold.{mark_at, mark_carried, mark_key, mark_keys, own_keys, watched};
+ghost use Rattle.documents.specs.declared.mark_lists.MarkKey.{MarkKey as Key};
 
-use crate::callers::Caller;
 use crate::documents::Document;
+use crate::mark_lists::{MarkChange, MarkKey, MarkKind, MarkList};
+use command_effects::is_word;
+use edit_ops::ChangeList;
 use mark_table::WidgetMark;
-use std::alloc::{AllocError, Global};
+use std::alloc::AllocError;
 use std::collections::BTreeSet;
-use std::marker::Model;
-use text_model::TextStore;
-
-/// The names of the marks that a command moves, makes or takes away, each once. Contracts see a list.
-#[derive(Drop)]
-pub struct MovedMarks {
-    alloc: Global,
-    names: Vec<String>,
-}
-
-impl Model for MovedMarks {
-    ghost use Rattle.std.specs.Prelude.{List, ℕ};
-    ghost use Rattle.std.specs.Coded.{codes};
-    ghost use Rattle.tcl_words.specs.Unread.{texts_of};
-
-    ghost Value = { List (List ℕ) };
-
-    ghost coded = { Prim.hlevel codes };
-
-    ghost view = { λ m. texts_of m.names.items };
-}
-
-impl MovedMarks {
-    /// No names. It takes no memory.
-    pub fn new(alloc: Global) -> MovedMarks
-        ensures { result ≡ [] }
-    {
-        MovedMarks {
-            alloc,
-            names: Vec::new(alloc),
-        }
-    }
-
-    pub fn as_slice(&self) -> &[String]
-        ensures { texts_of result.now ≡ self.now }
-    {
-        self.names.as_slice()
-    }
-
-    fn push(&mut self, name: &str) -> Result<(), AllocError>
-        ensures { OnOk result (self.new ≡ self.old ++ chars name.now ∷ []) }
-    {
-        self.names.push(String::from_str(self.alloc, name)?)?;
-        Ok(())
-    }
-}
+use text_model::{MarkNo, Place, TextStore};
 
 impl<S: TextStore> Document<S> {
-    /// Whether the mark of a name stands at an offset.
-    fn stands_at(&self, seat: usize, name: &str, offset: usize) -> bool
+    /// Where the mark of a key is, if there is one.
+    pub fn mark_at(&self, key: &MarkKey) -> Option<Place>
+        ensures { result ≡ mark_at self.now key.now }
+    {
+        let name = key.name.as_str();
+        match key.kind {
+            MarkKind::Insert => {
+                let seat = self.find_widget(name)?;
+                self.text
+                    .store
+                    .mark_place(MarkNo(2 * self.seats.number(seat)))
+            }
+            MarkKind::Current => {
+                let seat = self.find_widget(name)?;
+                self.text
+                    .store
+                    .mark_place(MarkNo(2 * self.seats.number(seat) + 1))
+            }
+            MarkKind::Shared => self.text.store.mark_place(self.marks.find(name)?),
+        }
+    }
+
+    /// Adds the mark of a key, as it is.
+    fn push_mark(&self, marks: &mut MarkList, kind: MarkKind, name: &str) -> Result<(), AllocError>
+        ensures { OnOk result
+            (marks.new ≡ marks.old ++ watched self.now (record { kind = kind; name = chars name.now }) ∷ []) }
+    {
+        let key = MarkKey::new(self.alloc, kind, name)?;
+        let place = self.mark_at(&key);
+        marks.push(key, place)
+    }
+
+    /// Adds the two marks of a widget of a name, whether there is one or not.
+    fn push_own_marks(&self, marks: &mut MarkList, name: &str) -> Result<(), AllocError>
+        ensures { OnOk result (marks.new ≡ marks.old ++ map (watched self.now) (own_keys (chars name.now))) }
+    {
+        self.push_mark(marks, MarkKind::Insert, name)?;
+        self.push_mark(marks, MarkKind::Current, name)
+    }
+
+    /// Returns all marks of the document: two of each widget, and the shared ones.
+    pub fn list_marks(&self) -> Result<MarkList, AllocError>
+        ensures { IfOk result (λ marks. marks ≡ map (watched self.now) (mark_keys self.now)) }
+    {
+        let mut marks = MarkList::new(self.alloc);
+        for seat in 0..self.seats.len() {
+            self.push_own_marks(&mut marks, self.seats.name(seat))?;
+        }
+        for mark in 0..self.marks.len() {
+            self.push_mark(&mut marks, MarkKind::Shared, self.marks.name(mark))?;
+        }
+        Ok(marks)
+    }
+
+    /// Returns the mark that a widget knows by a name, whether there is one or not.
+    pub fn list_mark(&self, seat: usize, name: &str) -> Result<MarkList, AllocError>
         requires { seat < length self.now.widgets }
-        ensures { Decides result
-            (offset_named self.now (widget_at self.now seat) (chars name.now) ≡ Some offset) }
+        ensures { IfOk result (λ marks.
+            marks ≡ watched self.now (mark_key (widget_at self.now seat) (chars name.now)) ∷ []) }
     {
-        match self.place_named(seat, name) {
-            Some(place) => place.offset == offset,
-            None => false,
+        let mut marks = MarkList::new(self.alloc);
+        if is_word(name, "insert") {
+            self.push_mark(&mut marks, MarkKind::Insert, self.seats.name(seat))?;
+        } else if is_word(name, "current") {
+            self.push_mark(&mut marks, MarkKind::Current, self.seats.name(seat))?;
+        } else {
+            self.push_mark(&mut marks, MarkKind::Shared, name)?;
         }
+        Ok(marks)
     }
 
-    /// The mark that it moves to set the mark of a name to a place of the view, unless that is refused.
-    pub fn told_mark_set(
+    /// Returns the two marks of a widget of a name, whether there is one or not.
+    pub fn list_own_marks(&self, name: &str) -> Result<MarkList, AllocError>
+        ensures { IfOk result (λ marks. marks ≡ map (watched self.now) (own_keys (chars name.now))) }
+    {
+        let mut marks = MarkList::new(self.alloc);
+        self.push_own_marks(&mut marks, name)?;
+        Ok(marks)
+    }
+
+    /// Adds the shared mark of a name, if there is one and it isn't listed yet.
+    fn push_shared(
         &self,
-        caller: &Caller<'_>,
-        name: &str,
-        place: usize,
-    ) -> Result<MovedMarks, AllocError>
-        requires shown { caller.now.seat < length self.now.widgets }
-        requires within { place ≤ length (shown self.now (widget_at self.now caller.now.seat)) }
-        ensures { let widget = widget_at self.now caller.now.seat in
-            caller.now.follows ≡ true → IfOk result (λ told. (limits : LimitTable) → ForetellsMarks self.now widget
-            (set_found limits self.now widget (chars name.now) (mark_offset self.now widget (chars name.now) place)
-            (place_named self.now widget (chars name.now))) told) }
-    {
-        let mut told = MovedMarks::new(self.alloc);
-        if !caller.follows {
-            return Ok(told);
-        }
-        let offset = self.mark_offset(caller.seat, name, place);
-        if !self.stands_at(caller.seat, name, offset) {
-            told.push(name)?;
-        }
-        Ok(told)
-    }
-
-    /// The place of the shared mark of a name among the shared marks, if there is one.
-    fn shared_mark(&self, name: &str) -> Option<usize>
-        ensures { MatchOption result ((number : ℕ) → mark_number self.now (chars name.now) ≢ Some (2 + number))
-            (λ place. mark_number self.now (chars name.now) ≡ Some (2 + place)) }
-    {
-        match self.find_mark(name)? {
-            WidgetMark::Shared(place) => Some(place),
-            WidgetMark::Insert | WidgetMark::Current => None,
-        }
-    }
-
-    /// Tells of a name, if it is that of a shared mark which wasn't seen yet.
-    fn tell_shared(
-        &self,
+        marks: &mut MarkList,
         seen: &mut BTreeSet<usize>,
-        told: &mut MovedMarks,
         name: &str,
     ) -> Result<(), AllocError>
         ensures { OnOk result ((words : List (List ℕ)) →
-            AreGathered self.now words (contains nat_cmp seen.old) told.old
-            → AreGathered self.now (words ++ chars name.now ∷ []) (contains nat_cmp seen.new) told.new) }
+            AreListed self.now words (contains nat_cmp seen.old) marks.old
+            → AreListed self.now (words ++ chars name.now ∷ []) (contains nat_cmp seen.new) marks.new) }
     {
-        let Some(place) = self.shared_mark(name) else {
+        let Some(mark) = self.find_mark(name) else {
+            return Ok(());
+        };
+        let WidgetMark::Shared(place) = mark else {
             return Ok(());
         };
         if seen.insert(place)? {
-            told.push(name)?;
+            self.push_mark(marks, MarkKind::Shared, name)?;
         }
         Ok(())
     }
 
-    /// The marks that `unset_marks` takes out.
-    pub(crate) fn told_mark_unset(
-        &self,
-        caller: &Caller<'_>,
-        names: &[String],
-    ) -> Result<MovedMarks, AllocError>
-        ensures { caller.now.follows ≡ true → IfOk result (λ told. (widget : Widget) →
-            ForetellsMarks self.now widget (mark_unset self.now (texts_of names.now)) told) }
+    /// Returns the shared marks among some names.
+    pub fn list_shared_marks(&self, names: &[String]) -> Result<MarkList, AllocError>
+        ensures watched { IfOk result (λ marks. AreWatched self.now marks) }
+        ensures all { IfOk result (λ marks. HasMarksBut marks self.now
+            (mark_unset self.now (texts_of names.now)).document) }
     {
-        let mut told = MovedMarks::new(self.alloc);
-        if !caller.follows {
-            return Ok(told);
-        }
+        let mut marks = MarkList::new(self.alloc);
         let mut seen = BTreeSet::new(self.alloc);
         for name in names {
-            self.tell_shared(&mut seen, &mut told, name.as_str())?;
+            self.push_shared(&mut marks, &mut seen, name.as_str())?;
         }
-        Ok(told)
+        Ok(marks)
+    }
+
+    /// Sets where a mark is now, and returns whether it was expected somewhere else.
+    fn settle_mark(&self, mark: &mut MarkChange) -> bool
+        ensures { IsSettled self.now mark.entry.now result mark.exit.now }
+    {
+        let place = self.mark_at(&mark.key);
+        let is_elsewhere = place != mark.new;
+        mark.new = place;
+        is_elsewhere
+    }
+
+    /// Keeps of marks, which were listed before changes of the text, those that the changes alone don't take to where
+    /// they are now, and says where that is. It allocates nothing.
+    pub fn settle_marks(&self, marks: &mut MarkList, changes: &ChangeList)
+        ensures told { (old : DocumentState) → AreWatched old marks.old → AreCarried changes.now old self.now →
+            ((key : Key) → AreOthers key marks.old → mark_at self.now key ≡ mark_carried changes.now old key) →
+            TellsMarks changes.now old self.now marks.new }
+        ensures none { marks.old ≡ [] → marks.new ≡ [] }
+    {
+        marks.carry_all(changes.as_slice());
+        marks.marks.retain_mut(|mark| self.settle_mark(mark));
     }
 }

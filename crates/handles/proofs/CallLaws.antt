@@ -1,7 +1,8 @@
 -- What a handle's session does, seen from the handle; and a command of a script that is carried out.
-use Rattle.handles.proofs.Common.{◌≡◌, ℕ, List, Option, Some, refl, sym, subst, ap, ◌∙◌, Unread, TakesCommand, Session}
-use Rattle.handles.proofs.Common.{Given, TurnEnd, CallEnd, Gives, Called, Calls, Fed, Feeds, Turns, Takes, status_after}
-use Rattle.handles.proofs.Common.{State, state_of, CalledTold, CallsTold, TurnsTold, TakesTold, option_map}
+use Rattle.handles.proofs.Common.{◌≡◌, ℕ, Bool, List, Option, Some, refl, sym, subst, ap, ◌∙◌, Unread, TakesCommand}
+use Rattle.handles.proofs.Common.{Session, Given, TurnEnd, CallEnd, Gives, Called, Calls, Fed, Feeds, Turns, Takes}
+use Rattle.handles.proofs.Common.{status_after, State, state_of, CalledTold, CallsTold, TurnsTold, TakesTold}
+use Rattle.handles.proofs.Common.{option_map}
 use Rattle.handles.specs.declared.ends.FeedEnd.{FeedEnd}
 use Rattle.handles.specs.declared.ends.Given.TheVariants as given
 use Rattle.handles.specs.declared.ends.TurnEnd.TheVariants as turn
@@ -28,20 +29,20 @@ takes-held was is old new ended before after turns =
     subst (λ w. Takes (option_map state_of w) (option_map state_of is) ended) (sym before)
     (subst (λ i. Takes (Some (state_of old)) (option_map state_of i) ended) (sym after) turns)
 
-pub calls_told-held : (was is : Option Session) (old new : Session) (lengths bytes : List ℕ) (ended : CallEnd) →
-    was ≡ Some old → is ≡ Some new
-    → CalledTold (state_of old) lengths bytes (state_of new) ended →
-    CallsTold (option_map state_of was) lengths bytes (option_map state_of is) ended
-calls_told-held was is old new lengths bytes ended before after called =
-    subst (λ w. CallsTold (option_map state_of w) lengths bytes (option_map state_of is) ended) (sym before)
-    (subst (λ i. CallsTold (Some (state_of old)) lengths bytes (option_map state_of i) ended) (sym after) called)
+pub calls_told-held : (marks : Bool) (was is : Option Session) (old new : Session) (lengths bytes : List ℕ)
+    (ended : CallEnd) → was ≡ Some old → is ≡ Some new
+    → CalledTold marks (state_of old) lengths bytes (state_of new) ended →
+    CallsTold marks (option_map state_of was) lengths bytes (option_map state_of is) ended
+calls_told-held marks was is old new lengths bytes ended before after called =
+    subst (λ w. CallsTold marks (option_map state_of w) lengths bytes (option_map state_of is) ended) (sym before)
+    (subst (λ i. CallsTold marks (Some (state_of old)) lengths bytes (option_map state_of i) ended) (sym after) called)
 
-pub takes_told-held : (was is : Option Session) (old new : Session) (ended : TurnEnd) → was ≡ Some old → is ≡ Some new
-    → TurnsTold (state_of old) (state_of new) ended →
-    TakesTold (option_map state_of was) (option_map state_of is) ended
-takes_told-held was is old new ended before after turns =
-    subst (λ w. TakesTold (option_map state_of w) (option_map state_of is) ended) (sym before)
-    (subst (λ i. TakesTold (Some (state_of old)) (option_map state_of i) ended) (sym after) turns)
+pub takes_told-held : (marks : Bool) (was is : Option Session) (old new : Session) (ended : TurnEnd) → was ≡ Some old
+    → is ≡ Some new → TurnsTold marks (state_of old) (state_of new) ended →
+    TakesTold marks (option_map state_of was) (option_map state_of is) ended
+takes_told-held marks was is old new ended before after turns =
+    subst (λ w. TakesTold marks (option_map state_of w) (option_map state_of is) ended) (sym before)
+    (subst (λ i. TakesTold marks (Some (state_of old)) (option_map state_of i) ended) (sym after) turns)
 
 -- a command is taken off the script and given to the world
 turns-after : (old : State) (script : Unread) (said : State) (words : List (List ℕ)) (given : Given)

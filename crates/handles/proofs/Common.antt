@@ -10,9 +10,10 @@ pub use Rattle.handles.specs.Calls.{Called, Calls, Fed, Feeds, Gives, Takes, Tur
 pub use Rattle.handles.specs.Held.{frees, held_value}
 pub use Rattle.handles.specs.Room.{Copied, over}
 pub use Rattle.handles.specs.State.{State, Telling, memory_said, said_text, state_of}
-pub use Rattle.handles.specs.Told.{CalledTold, CallsTold, GivesTold, IsTold, TakesTold, TurnsTold, bytes_of, mark_told}
-pub use Rattle.handles.specs.Told.{place_of, span_in, spot_in, tag_name, tag_told, tag_widget, text_told, untold}
-pub use Rattle.handles.specs.Told.{widget_told, word_given}
+pub use Rattle.handles.specs.Told.{CalledTold, CallsTold, GivesTold, IsTold, TakesTold, TurnsTold, bytes_of, mark_name}
+pub use Rattle.handles.specs.Told.{mark_place_in, mark_told, mark_widget, owner_told, place_of, span_in, spot_in}
+pub use Rattle.handles.specs.Told.{tag_name, tag_told, tag_widget, text_told, untold, widget_by, widget_told}
+pub use Rattle.handles.specs.Told.{word_given}
 pub use Rattle.handles.specs.Words.{AreLengths, AreTexts, cut, total, words_at}
 pub use Rattle.handles.specs.declared.ends.CallEnd.{CallEnd}
 pub use Rattle.handles.specs.declared.ends.Given.{Given}

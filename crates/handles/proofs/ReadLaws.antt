@@ -1,7 +1,7 @@
 -- What C reads of words, of changes and of names.
 use Rattle.handles.proofs.Common.{◌≡◌, ℕ, ◌<◌, ◌≤◌, List, [], length, get_or, refl, sym, ap, subst, ◌∙◌}
-use Rattle.handles.proofs.Common.{encode_utf8_all, option_map, slice_get, encodes-chars, texts_of, bytes_of, mark_told}
-use Rattle.handles.proofs.Common.{word_given, Option, Some, None, chars, IsUtf8, String, string_bytes}
+use Rattle.handles.proofs.Common.{encode_utf8_all, option_map, slice_get, encodes-chars, texts_of, bytes_of, word_given}
+use Rattle.handles.proofs.Common.{Option, Some, None, chars, IsUtf8, String, string_bytes}
 use Rattle.std.proofs.lemmas.Option.{slice_get-map, slice_get_past, slice_get_read}
 
 -- the element at a place of a list, which is another one's
@@ -35,16 +35,3 @@ read-found shown all index x read same within is = sym (ap read (element shown a
 pub read-none : {A B : Type 0} (shown all : List A) (index : ℕ) (read : Option A → B) → shown ≡ all
     → length shown ≤ index → read None ≡ read (slice_get all index)
 read-none shown all index read same beyond = sym (ap read (past shown all index same beyond))
-
--- a name among the marks, as words
-pub mark-found : {Z : Type 0} (shown : List (String Z)) (marks : List (List ℕ)) (index : ℕ) (word : String Z)
-    (bytes : List ℕ) → texts_of shown ≡ marks → index < length shown → word ≡ get_or shown index word
-    → bytes ≡ string_bytes word → IsUtf8 bytes → bytes ≡ mark_told marks index
-mark-found shown marks index word bytes same within is spelled text =
-    word-found shown shown index word bytes refl within is spelled text
-    ∙ ap (λ words. word_given words index) same
-
-pub no-mark : {Z : Type 0} (shown : List (String Z)) (marks : List (List ℕ)) (index : ℕ) → texts_of shown ≡ marks
-    → length shown ≤ index → mark_told marks index ≡ []
-no-mark shown marks index same beyond =
-    sym (ap (λ words. word_given words index) same) ∙ no-word shown shown index refl beyond

@@ -75,38 +75,40 @@ gives-refused old world words cause makes =
     ]
 
 -- what is given otherwise than by an answer tells nothing
-gives-untold : (old : State) (words : List (List ℕ)) (new : State) (outcome : Given) → Gives old words new outcome
-    → outcome ≢ given.Answer → GivesTold old words new outcome
-gives-untold old words new given.Answer gives other = absurd (other refl)
-gives-untold old words new given.Fault gives other = gives
-gives-untold old words new given.Memory gives other = gives
+gives-untold : (marks : Bool) (old : State) (words : List (List ℕ)) (new : State) (outcome : Given)
+    → Gives old words new outcome → outcome ≢ given.Answer → GivesTold marks old words new outcome
+gives-untold marks old words new given.Answer gives other = absurd (other refl)
+gives-untold marks old words new given.Fault gives other = gives
+gives-untold marks old words new given.Memory gives other = gives
 
 -- the command is answered, its changes are kept, and the answer is said
-pub gives_told-answer : (old new : State) (world : World) (words shown : List (List ℕ)) (answer : Answer)
+pub gives_told-answer : (marks : Bool) (old new : State) (world : World) (words shown : List (List ℕ)) (answer : Answer)
     (telling : Telling) (outcome : Given)
-    → shown ≡ words → Makes old.world world (Ok answer) (step old.world shown) → IsTold old.world world shown telling
+    → shown ≡ words → Makes old.world world (Ok answer) (step old.world shown)
+    → IsTold marks old.world world shown telling
     → new ≡ record (replied old world words (Ok answer)) { told = telling } → outcome ≡ given_of (Ok answer)
-    → GivesTold old words new outcome
-gives_told-answer old new world words shown answer telling outcome same makes tells said is =
+    → GivesTold marks old words new outcome
+gives_told-answer marks old new world words shown answer telling outcome same makes tells said is =
     let made = subst (λ (ws : List (List ℕ)). Makes old.world world (Ok answer) (step old.world ws)) same makes in
-    let told = subst (λ (ws : List (List ℕ)). IsTold old.world world ws telling) same tells in
+    let told = subst (λ (ws : List (List ℕ)). IsTold marks old.world world ws telling) same tells in
     let plain = gives-answer old world words answer made in
     let path = plain.1 in
-    subst (λ (g : Given). GivesTold old words new g) (sym is)
-    (subst (λ (n : State). GivesTold old words n given.Answer) (sym said)
+    subst (λ (g : Given). GivesTold marks old words new g) (sym is)
+    (subst (λ (n : State). GivesTold marks old words n given.Answer) (sym said)
     (plain.0, λ i. record (path i) { told = telling }, told))
 
 -- the command is refused, and its fault is said
-pub gives_told-fault : (old new : State) (world : World) (words shown : List (List ℕ)) (cause : Fault) (outcome : Given)
+pub gives_told-fault : (marks : Bool) (old new : State) (world : World) (words shown : List (List ℕ)) (cause : Fault)
+    (outcome : Given)
     → shown ≡ words → Makes old.world world (Err cause) (step old.world shown)
     → new ≡ replied old world words (Err cause) → outcome ≡ given_of (Err cause)
-    → GivesTold old words new outcome
-gives_told-fault old new world words shown cause outcome same makes said is =
+    → GivesTold marks old words new outcome
+gives_told-fault marks old new world words shown cause outcome same makes said is =
     let made = subst (λ (ws : List (List ℕ)). Makes old.world world (Err cause) (step old.world ws)) same makes in
     let plain = gives-refused old world words cause made in
-    subst (λ (g : Given). GivesTold old words new g) (sym is)
-    (subst (λ (n : State). GivesTold old words n (given_of (Err cause))) (sym said)
-    (gives-untold old words (replied old world words (Err cause)) (given_of (Err cause)) plain.0 plain.1))
+    subst (λ (g : Given). GivesTold marks old words new g) (sym is)
+    (subst (λ (n : State). GivesTold marks old words n (given_of (Err cause))) (sym said)
+    (gives-untold marks old words (replied old world words (Err cause)) (given_of (Err cause)) plain.0 plain.1))
 
 -- ---- words that stand in bytes
 
@@ -117,57 +119,59 @@ called-given old new lengths bytes given.Answer fits texts gives = (fits, texts,
 called-given old new lengths bytes given.Fault fits texts gives = (fits, texts, gives)
 called-given old new lengths bytes given.Memory fits texts gives = gives
 
-called_told-given : (old new : State) (lengths bytes : List ℕ) (outcome : Given) → AreLengths lengths bytes
-    → AreTexts (cut lengths bytes) → GivesTold (untold old) (words_at lengths bytes) new outcome
-    → CalledTold old lengths bytes new (call.Given outcome)
-called_told-given old new lengths bytes given.Answer fits texts gives = (fits, texts, gives)
-called_told-given old new lengths bytes given.Fault fits texts gives = (fits, texts, gives)
-called_told-given old new lengths bytes given.Memory fits texts gives = gives
+called_told-given : (marks : Bool) (old new : State) (lengths bytes : List ℕ) (outcome : Given)
+    → AreLengths lengths bytes → AreTexts (cut lengths bytes)
+    → GivesTold marks (untold old) (words_at lengths bytes) new outcome
+    → CalledTold marks old lengths bytes new (call.Given outcome)
+called_told-given marks old new lengths bytes given.Answer fits texts gives = (fits, texts, gives)
+called_told-given marks old new lengths bytes given.Fault fits texts gives = (fits, texts, gives)
+called_told-given marks old new lengths bytes given.Memory fits texts gives = gives
 
 -- an end of a call that isn't an answer
-called-untold : (old new : State) (lengths bytes : List ℕ) (ended : CallEnd)
+called-untold : (marks : Bool) (old new : State) (lengths bytes : List ℕ) (ended : CallEnd)
     → Called (untold old) lengths bytes new ended → ended ≢ call.Given given.Answer
-    → CalledTold old lengths bytes new ended
-called-untold old new lengths bytes (call.Given given.Answer) called other = absurd (other refl)
-called-untold old new lengths bytes (call.Given given.Fault) called other = called
-called-untold old new lengths bytes (call.Given given.Memory) called other = called
-called-untold old new lengths bytes call.NotText called other = called
-called-untold old new lengths bytes call.WrongLengths called other = called
-called-untold old new lengths bytes call.WrongHandle called other = called
+    → CalledTold marks old lengths bytes new ended
+called-untold marks old new lengths bytes (call.Given given.Answer) called other = absurd (other refl)
+called-untold marks old new lengths bytes (call.Given given.Fault) called other = called
+called-untold marks old new lengths bytes (call.Given given.Memory) called other = called
+called-untold marks old new lengths bytes call.NotText called other = called
+called-untold marks old new lengths bytes call.WrongLengths called other = called
+called-untold marks old new lengths bytes call.WrongHandle called other = called
 
 -- both clauses of a call whose words are given to the world, after what was told last is forgotten
-pub called-both : (tells : Bool) (old mid new : State) (lengths bytes : List ℕ) (words : List (List ℕ))
+pub called-both : (marks tells : Bool) (old mid new : State) (lengths bytes : List ℕ) (words : List (List ℕ))
     (outcome : Given)
     → mid ≡ (if tells then untold old else old) → words ≡ words_at lengths bytes → AreLengths lengths bytes
     → AreTexts (cut lengths bytes) → (tells ≡ false → Gives mid words new outcome)
-    → (tells ≡ true → GivesTold mid words new outcome)
+    → (tells ≡ true → GivesTold marks mid words new outcome)
     → (tells ≡ false → Called old lengths bytes new (call.Given outcome))
-    × (tells ≡ true → CalledTold old lengths bytes new (call.Given outcome))
-called-both false old mid new lengths bytes words outcome is spelled fits texts plain told = (
+    × (tells ≡ true → CalledTold marks old lengths bytes new (call.Given outcome))
+called-both marks false old mid new lengths bytes words outcome is spelled fits texts plain told = (
   λ no. called-given old new lengths bytes outcome fits texts
       (subst (λ (ws : List (List ℕ)). Gives old ws new outcome) spelled
       (subst (λ (m : State). Gives m words new outcome) is (plain refl))),
   λ yes. absurd (true≢false (sym yes)),
 )
-called-both true old mid new lengths bytes words outcome is spelled fits texts plain told = (
+called-both marks true old mid new lengths bytes words outcome is spelled fits texts plain told = (
   λ no. absurd (true≢false no),
-  λ yes. called_told-given old new lengths bytes outcome fits texts
-      (subst (λ (ws : List (List ℕ)). GivesTold (untold old) ws new outcome) spelled
-      (subst (λ (m : State). GivesTold m words new outcome) is (told refl))),
+  λ yes. called_told-given marks old new lengths bytes outcome fits texts
+      (subst (λ (ws : List (List ℕ)). GivesTold marks (untold old) ws new outcome) spelled
+      (subst (λ (m : State). GivesTold marks m words new outcome) is (told refl))),
 )
 
 -- the same of a call that ends otherwise
-pub called_otherwise-both : (tells : Bool) (old mid new : State) (lengths bytes : List ℕ) (ended : CallEnd)
+pub called_otherwise-both : (marks tells : Bool) (old mid new : State) (lengths bytes : List ℕ) (ended : CallEnd)
     → mid ≡ (if tells then untold old else old) → Called mid lengths bytes new ended → ended ≢ call.Given given.Answer
-    → (tells ≡ false → Called old lengths bytes new ended) × (tells ≡ true → CalledTold old lengths bytes new ended)
-called_otherwise-both false old mid new lengths bytes ended is called other = (
+    → (tells ≡ false → Called old lengths bytes new ended)
+    × (tells ≡ true → CalledTold marks old lengths bytes new ended)
+called_otherwise-both marks false old mid new lengths bytes ended is called other = (
   λ no. subst (λ (m : State). Called m lengths bytes new ended) is called,
   λ yes. absurd (true≢false (sym yes)),
 )
-called_otherwise-both true old mid new lengths bytes ended is called other = (
+called_otherwise-both marks true old mid new lengths bytes ended is called other = (
   λ no. absurd (true≢false no),
-  λ yes. called-untold old new lengths bytes ended (subst (λ (m : State). Called m lengths bytes new ended) is called)
-      other,
+  λ yes. called-untold marks old new lengths bytes ended
+      (subst (λ (m : State). Called m lengths bytes new ended) is called) other,
 )
 
 pub memory-no_answer : call.Given given.Memory ≢ call.Given given.Answer
@@ -181,62 +185,64 @@ wrong_lengths-no_answer is = (cc)
 
 -- ---- a turn of the script
 
-turns_told-on : (old : State) (script : Unread) (said new : State) (words : List (List ℕ)) (outcome : Given)
-    → TakesCommand old.script words script → GivesTold (record (untold old) { script = script }) words said outcome
-    → new ≡ record said { status = status_after outcome said.status } → TurnsTold old new (turn.Command outcome)
-turns_told-on old script said new words given.Answer takes gives noted =
+turns_told-on : (marks : Bool) (old : State) (script : Unread) (said new : State) (words : List (List ℕ))
+    (outcome : Given) → TakesCommand old.script words script
+    → GivesTold marks (record (untold old) { script = script }) words said outcome
+    → new ≡ record said { status = status_after outcome said.status } → TurnsTold marks old new (turn.Command outcome)
+turns_told-on marks old script said new words given.Answer takes gives noted =
     let moved = ap (λ (x : State). x.world) gives.1 in
-    let tells = subst (λ (w : World). IsTold old.world w words said.told) moved gives.2 in
-    subst (λ (x : State). TurnsTold old x (turn.Command given.Answer)) (sym noted)
-    (subst (λ (x : State). TurnsTold old (record x { status = status_after given.Answer x.status })
+    let tells = subst (λ (w : World). IsTold marks old.world w words said.told) moved gives.2 in
+    subst (λ (x : State). TurnsTold marks old x (turn.Command given.Answer)) (sym noted)
+    (subst (λ (x : State). TurnsTold marks old (record x { status = status_after given.Answer x.status })
     (turn.Command given.Answer)) (sym gives.1)
     (words, takes, (gives.0, refl, tells), refl))
-turns_told-on old script said new words given.Fault takes gives noted =
+turns_told-on marks old script said new words given.Fault takes gives noted =
     turns-on (untold old) script said new words given.Fault takes gives noted
-turns_told-on old script said new words given.Memory takes gives noted =
+turns_told-on marks old script said new words given.Memory takes gives noted =
     turns-on (untold old) script said new words given.Memory takes gives noted
 
 -- an end of a turn that isn't an answer
-turns-untold : (old new : State) (ended : TurnEnd) → Turns (untold old) new ended → ended ≢ turn.Command given.Answer
-    → TurnsTold old new ended
-turns-untold old new (turn.Command given.Answer) turns other = absurd (other refl)
-turns-untold old new (turn.Command given.Fault) turns other = turns
-turns-untold old new (turn.Command given.Memory) turns other = turns
-turns-untold old new turn.Fault turns other = turns
-turns-untold old new turn.End turns other = turns
-turns-untold old new turn.WrongHandle turns other = turns
+turns-untold : (marks : Bool) (old new : State) (ended : TurnEnd) → Turns (untold old) new ended
+    → ended ≢ turn.Command given.Answer → TurnsTold marks old new ended
+turns-untold marks old new (turn.Command given.Answer) turns other = absurd (other refl)
+turns-untold marks old new (turn.Command given.Fault) turns other = turns
+turns-untold marks old new (turn.Command given.Memory) turns other = turns
+turns-untold marks old new turn.Fault turns other = turns
+turns-untold marks old new turn.End turns other = turns
+turns-untold marks old new turn.WrongHandle turns other = turns
 
 -- both clauses of a turn in which a command is carried out
-pub turned-both : (tells : Bool) (old mid : State) (script : Unread) (said new : State) (words : List (List ℕ))
+pub turned-both : (marks tells : Bool) (old mid : State) (script : Unread) (said new : State) (words : List (List ℕ))
     (outcome : Given)
     → mid ≡ (if tells then untold old else old) → TakesCommand mid.script words script
     → (tells ≡ false → Gives (record mid { script = script }) words said outcome)
-    → (tells ≡ true → GivesTold (record mid { script = script }) words said outcome)
+    → (tells ≡ true → GivesTold marks (record mid { script = script }) words said outcome)
     → new ≡ record said { status = status_after outcome said.status }
-    → (tells ≡ false → Turns old new (turn.Command outcome)) × (tells ≡ true → TurnsTold old new (turn.Command outcome))
-turned-both false old mid script said new words outcome is takes plain told noted = (
+    → (tells ≡ false → Turns old new (turn.Command outcome))
+    × (tells ≡ true → TurnsTold marks old new (turn.Command outcome))
+turned-both marks false old mid script said new words outcome is takes plain told noted = (
   λ no. subst (λ (m : State). Turns m new (turn.Command outcome)) is
       (turns-on mid script said new words outcome takes (plain refl) noted),
   λ yes. absurd (true≢false (sym yes)),
 )
-turned-both true old mid script said new words outcome is takes plain told noted = (
+turned-both marks true old mid script said new words outcome is takes plain told noted = (
   λ no. absurd (true≢false no),
-  λ yes. turns_told-on old script said new words outcome
+  λ yes. turns_told-on marks old script said new words outcome
       (subst (λ (m : State). TakesCommand m.script words script) is takes)
-      (subst (λ (m : State). GivesTold (record m { script = script }) words said outcome) is (told refl)) noted,
+      (subst (λ (m : State). GivesTold marks (record m { script = script }) words said outcome) is (told refl)) noted,
 )
 
 -- the same of a turn that ends otherwise
-pub turned_otherwise-both : (tells : Bool) (old mid new : State) (ended : TurnEnd)
+pub turned_otherwise-both : (marks tells : Bool) (old mid new : State) (ended : TurnEnd)
     → mid ≡ (if tells then untold old else old) → Turns mid new ended → ended ≢ turn.Command given.Answer
-    → (tells ≡ false → Turns old new ended) × (tells ≡ true → TurnsTold old new ended)
-turned_otherwise-both false old mid new ended is turns other = (
+    → (tells ≡ false → Turns old new ended) × (tells ≡ true → TurnsTold marks old new ended)
+turned_otherwise-both marks false old mid new ended is turns other = (
   λ no. subst (λ (m : State). Turns m new ended) is turns,
   λ yes. absurd (true≢false (sym yes)),
 )
-turned_otherwise-both true old mid new ended is turns other = (
+turned_otherwise-both marks true old mid new ended is turns other = (
   λ no. absurd (true≢false no),
-  λ yes. turns-untold old new ended (subst (λ (m : State). Turns m new ended) is turns) other,
+  λ yes. turns-untold marks old new ended (subst (λ (m : State). Turns m new ended) is turns) other,
 )
 
 pub end-no_answer : turn.End ≢ turn.Command given.Answer

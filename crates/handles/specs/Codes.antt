@@ -1,5 +1,8 @@
 -- The codes that C gets.
-use Rattle.std.specs.Prelude.{ℤ, pos, negsuc, Bool, true, false, Option, None, Some}
+use Rattle.std.specs.Prelude.{ℕ, ℤ, pos, negsuc, Bool, true, false, Option, None, Some}
+use Rattle.text_model.specs.declared.places.Gravity.{Gravity}
+use Rattle.text_model.specs.declared.places.Gravity.TheVariants.{Left, Right}
+use Rattle.text_model.specs.declared.places.Place.{Place}
 use Rattle.handles.specs.declared.ends.Given.{Given}
 use Rattle.handles.specs.declared.ends.Given.TheVariants as given
 use Rattle.handles.specs.declared.ends.MakeEnd.{MakeEnd}
@@ -56,3 +59,18 @@ abbrev pub told_code : Option Bool → ℤ
 told_code (Some true) = pos 1
 told_code (Some false) = pos 0
 told_code None = negsuc 0
+
+-- the offset of a place, or the greatest number where there is none
+abbrev pub offset_code : Option Place → ℕ
+offset_code None = 18446744073709551615
+offset_code (Some place) = place.offset
+
+-- to which side of text that is inserted at it a mark goes
+abbrev pub side_code : Gravity → ℤ
+side_code Right = pos 0
+side_code Left = pos 1
+
+-- the gravity of a mark, or that it has no place
+abbrev pub gravity_code : Option Place → ℤ
+gravity_code None = negsuc 0
+gravity_code (Some place) = side_code place.gravity

@@ -4,6 +4,7 @@ use Rattle.text_model.specs.LimitTable.{LimitTable}
 use Rattle.tcl_words.specs.Unread.{Unread, nothing_fed, texts_of}
 use Rattle.edit_ops.specs.declared.changes.TextChange.{TextChange}
 use Rattle.command_effects.specs.declared.answers.Fault.TheVariants.{Memory}
+use Rattle.documents.specs.declared.mark_lists.MarkChange.{MarkChange}
 use Rattle.documents.specs.declared.tag_lists.TagChange.{TagChange}
 use Rattle.peers.specs.World.{World}
 use Rattle.printing.specs.Lines.{piece}
@@ -13,11 +14,12 @@ use Rattle.handles.specs.declared.session.Said.{Said}
 use Rattle.handles.specs.declared.session.Said.TheVariants.{Nothing, Reply, Fault}
 use Rattle.handles.specs.declared.session.Session.{Session}
 
--- what a command told: the changes of a text and of its tags, and the names of the marks that it moved
+-- what a command told: the changes of a text and of its tags, and the marks that these alone don't take to where they
+-- are
 pub record Telling : Type 0 where
   pub changes : List TextChange
   pub tags : List TagChange
-  pub marks : List (List ℕ)
+  pub marks : List MarkChange
 
 abbrev pub nothing_told : Telling
 nothing_told = record { changes = []; tags = []; marks = [] }

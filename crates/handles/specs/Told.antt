@@ -1,10 +1,15 @@
 -- What a command that tells makes of a session, and what C reads of it.
 use Rattle.std.specs.Prelude.{◌≡◌, ℕ, Bool, true, false, List, [], Option, Some, None, IsSome, is_ok, slice_get}
 use Rattle.std.specs.Prelude.{encode_utf8_all, option_map, ◌==◌, if◌then◌else◌}
+use Rattle.text_model.specs.declared.places.Place.{Place}
 use Rattle.tcl_words.specs.Unread.{TakesCommand}
 use Rattle.edit_ops.specs.declared.changes.TextChange.{TextChange}
 use Rattle.edit_ops.specs.declared.spots.Spot.{Spot}
+use Rattle.command_effects.specs.Words.{literal}
 use Rattle.documents.specs.Documents.{sel}
+use Rattle.documents.specs.declared.mark_lists.MarkChange.{MarkChange}
+use Rattle.documents.specs.declared.mark_lists.MarkKind.{MarkKind}
+use Rattle.documents.specs.declared.mark_lists.MarkKind.TheVariants.{Insert, Current, Shared}
 use Rattle.documents.specs.declared.tag_lists.TagChange.{TagChange}
 use Rattle.peers.specs.Step.{step}
 use Rattle.peers.specs.MarksTold.{MarksTellOf}
@@ -28,42 +33,43 @@ use Rattle.handles.specs.Words.{cut, words_at, AreLengths, AreTexts}
 abbrev pub untold : State → State
 untold old = record old { told = nothing_told }
 
--- what is told of a command of these words that made a world of another
-abbrev pub IsTold : World → World → List (List ℕ) → Telling → Type 0
-IsTold old new words told =
-    TellsOf old new words (record { changes = told.changes; tags = told.tags }) × MarksTellOf old new words told.marks
+-- what is told of a command of these words that made a world of another; of marks nothing, unless they are asked for
+abbrev pub IsTold : (marks : Bool) → World → World → List (List ℕ) → Telling → Type 0
+IsTold marks old new words told =
+    TellsOf old new words (record { changes = told.changes; tags = told.tags })
+    × (marks ≡ true → MarksTellOf old new words told.changes told.marks) × (marks ≡ false → told.marks ≡ [])
 
 -- From old to new a command is answered, and what it changed is told; or it is refused, which tells nothing.
-abbrev pub GivesTold : State → List (List ℕ) → State → Given → Type 0
-GivesTold old words new given.Answer =
+abbrev pub GivesTold : (marks : Bool) → State → List (List ℕ) → State → Given → Type 0
+GivesTold marks old words new given.Answer =
     (is_ok (step old.world words).reply ≡ true) × (new ≡ record (stepped old words) { told = new.told })
-    × IsTold old.world new.world words new.told
-GivesTold old words new given = Gives old words new given
+    × IsTold marks old.world new.world words new.told
+GivesTold marks old words new given = Gives old words new given
 
 -- The same of words that stand in bytes, unless they are none.
-abbrev pub CalledTold : State → List ℕ → List ℕ → State → CallEnd → Type 0
-CalledTold old lengths bytes new (call.Given given.Answer) =
+abbrev pub CalledTold : (marks : Bool) → State → List ℕ → List ℕ → State → CallEnd → Type 0
+CalledTold marks old lengths bytes new (call.Given given.Answer) =
     AreLengths lengths bytes × AreTexts (cut lengths bytes)
-    × GivesTold (untold old) (words_at lengths bytes) new given.Answer
-CalledTold old lengths bytes new ended = Called (untold old) lengths bytes new ended
+    × GivesTold marks (untold old) (words_at lengths bytes) new given.Answer
+CalledTold marks old lengths bytes new ended = Called (untold old) lengths bytes new ended
 
-abbrev pub CallsTold : Option State → List ℕ → List ℕ → Option State → CallEnd → Type 0
-CallsTold None lengths bytes new ended = (new ≡ None) × (ended ≡ call.WrongHandle)
-CallsTold (Some old) lengths bytes None ended = ⊥
-CallsTold (Some old) lengths bytes (Some new) ended = CalledTold old lengths bytes new ended
+abbrev pub CallsTold : (marks : Bool) → Option State → List ℕ → List ℕ → Option State → CallEnd → Type 0
+CallsTold marks None lengths bytes new ended = (new ≡ None) × (ended ≡ call.WrongHandle)
+CallsTold marks (Some old) lengths bytes None ended = ⊥
+CallsTold marks (Some old) lengths bytes (Some new) ended = CalledTold marks old lengths bytes new ended
 
 -- From old to new the next command of the script is carried out, and what it changed is told.
-abbrev pub TurnsTold : State → State → TurnEnd → Type 0
-TurnsTold old new (turn.Command given.Answer) =
+abbrev pub TurnsTold : (marks : Bool) → State → State → TurnEnd → Type 0
+TurnsTold marks old new (turn.Command given.Answer) =
     (words : List (List ℕ)) × TakesCommand old.script words new.script
-    × GivesTold (untold old) words (record new { script = old.script; status = old.status }) given.Answer
+    × GivesTold marks (untold old) words (record new { script = old.script; status = old.status }) given.Answer
     × (new.status ≡ old.status)
-TurnsTold old new ended = Turns (untold old) new ended
+TurnsTold marks old new ended = Turns (untold old) new ended
 
-abbrev pub TakesTold : Option State → Option State → TurnEnd → Type 0
-TakesTold None new ended = (new ≡ None) × (ended ≡ turn.WrongHandle)
-TakesTold (Some old) None ended = ⊥
-TakesTold (Some old) (Some new) ended = TurnsTold old new ended
+abbrev pub TakesTold : (marks : Bool) → Option State → Option State → TurnEnd → Type 0
+TakesTold marks None new ended = (new ≡ None) × (ended ≡ turn.WrongHandle)
+TakesTold marks (Some old) None ended = ⊥
+TakesTold marks (Some old) (Some new) ended = TurnsTold marks old new ended
 
 -- ---- what C reads
 
@@ -147,6 +153,36 @@ span_in (Some change) = tag_span change
 abbrev pub span_told : List TagChange → ℕ → ℕ × ℕ × Bool
 span_told tags index = span_in (slice_get tags index)
 
--- the bytes of the name of one of the marks
-abbrev pub mark_told : List (List ℕ) → ℕ → List ℕ
-mark_told marks index = bytes_of (slice_get marks index)
+-- a mark: the name by which its widget knows it, and of a widget's own `insert` or `current` that widget's
+abbrev pub name_by : MarkKind → List ℕ → List ℕ
+name_by Insert name = literal "insert"
+name_by Current name = literal "current"
+name_by Shared name = name
+
+abbrev pub widget_by : MarkKind → List ℕ → List ℕ
+widget_by Shared name = []
+widget_by kind name = name
+
+abbrev pub mark_name : MarkChange → List ℕ
+mark_name mark = name_by mark.key.kind mark.key.name
+
+abbrev pub mark_widget : MarkChange → List ℕ
+mark_widget mark = widget_by mark.key.kind mark.key.name
+
+-- the bytes of its names; nothing where there is none
+abbrev pub mark_told : List MarkChange → ℕ → List ℕ
+mark_told marks index = bytes_of (option_map mark_name (slice_get marks index))
+
+abbrev pub owner_told : List MarkChange → ℕ → List ℕ
+owner_told marks index = bytes_of (option_map mark_widget (slice_get marks index))
+
+-- where it is before the command (0), and after it (any other number)
+abbrev pub place_by : MarkChange → ℕ → Option Place
+place_by mark end = if end == 0 then mark.old else mark.new
+
+abbrev pub mark_place_in : Option MarkChange → ℕ → Option Place
+mark_place_in None end = None
+mark_place_in (Some mark) end = place_by mark end
+
+abbrev pub mark_place_told : List MarkChange → ℕ → ℕ → Option Place
+mark_place_told marks index end = mark_place_in (slice_get marks index) end

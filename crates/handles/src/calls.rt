@@ -50,16 +50,24 @@ impl Handle {
         }
     }
 
-    /// Carries out a command, and keeps its report where `tells` asks for it.
-    pub fn call(&mut self, alloc: Global, tells: bool, bytes: &[u8], lengths: &[usize]) -> CallEnd
+    /// Carries out a command, and keeps its report where `tells` asks for it, with its marks where `marks` does.
+    pub fn call(
+        &mut self,
+        alloc: Global,
+        tells: bool,
+        marks: bool,
+        bytes: &[u8],
+        lengths: &[usize],
+    ) -> CallEnd
         ensures plain { tells ≡ false → Calls (state self.old) lengths.now bytes.now (state self.new) result }
-        ensures told { tells ≡ true → CallsTold (state self.old) lengths.now bytes.now (state self.new) result }
+        ensures told { tells ≡ true →
+            CallsTold marks (state self.old) lengths.now bytes.now (state self.new) result }
     {
         if !self.full {
             return CallEnd::WrongHandle;
         }
         let mut session = self.take(alloc);
-        let ended = session.call_bytes(alloc, tells, bytes, lengths);
+        let ended = session.call_bytes(alloc, tells, marks, bytes, lengths);
         self.put(session);
         ended
     }
@@ -147,16 +155,17 @@ impl Handle {
         }
     }
 
-    /// Takes the next turn of the script, and keeps its report where `tells` asks for it.
-    pub fn take_turn(&mut self, alloc: Global, tells: bool) -> TurnEnd
+    /// Takes the next turn of the script, and keeps its report where `tells` asks for it, with its marks where `marks`
+    /// does.
+    pub fn take_turn(&mut self, alloc: Global, tells: bool, marks: bool) -> TurnEnd
         ensures plain { tells ≡ false → Takes (state self.old) (state self.new) result }
-        ensures told { tells ≡ true → TakesTold (state self.old) (state self.new) result }
+        ensures told { tells ≡ true → TakesTold marks (state self.old) (state self.new) result }
     {
         if !self.full {
             return TurnEnd::WrongHandle;
         }
         let mut session = self.take(alloc);
-        let ended = session.take_turn(alloc, tells);
+        let ended = session.take_turn(alloc, tells, marks);
         self.put(session);
         ended
     }

@@ -1,7 +1,9 @@
 //! How the calls from C end, and the codes of that.
 ghost use Rattle.std.specs.Prelude.{◌≡◌};
 ghost use Rattle.handles.specs.Codes.{flag_code, given_code, make_code, move_code, call_code, feed_code, turn_code};
-ghost use Rattle.handles.specs.Codes.{told_code};
+ghost use Rattle.handles.specs.Codes.{gravity_code, offset_code, side_code, told_code};
+
+use text_model::{Gravity, Place};
 
 /// What a command was given.
 #[derive(Clone, Copy)]
@@ -168,5 +170,34 @@ pub fn code_of_told(told: Option<bool>) -> i32
         Some(true) => 1,
         Some(false) => 0,
         None => -1,
+    }
+}
+
+/// The offset of a mark, or `usize::MAX` where it has no place.
+pub fn offset_of_place(place: Option<Place>) -> usize
+    ensures { result ≡ offset_code place }
+{
+    match place {
+        Some(place) => place.offset,
+        None => usize::MAX,
+    }
+}
+
+/// The code of a mark's gravity.
+pub fn code_of_gravity(place: Option<Place>) -> i32
+    ensures { result ≡ gravity_code place }
+{
+    match place {
+        Some(place) => code_of_side(place.gravity),
+        None => -1,
+    }
+}
+
+fn code_of_side(gravity: Gravity) -> i32
+    ensures { result ≡ side_code gravity }
+{
+    match gravity {
+        Gravity::Right => 0,
+        Gravity::Left => 1,
     }
 }

@@ -2,18 +2,20 @@
 ghost use Rattle.std.specs.Prelude.{◌≡◌, chars, length, min};
 ghost use Rattle.handles.specs.Room.{over};
 ghost use Rattle.handles.specs.State.{nothing_told, telling_of};
-ghost use Rattle.handles.specs.Told.{mark_told, place_told, span_told, spot_of, spot_told, tag_name, tag_told};
-ghost use Rattle.handles.specs.Told.{tag_widget, text_told, widget_told};
+ghost use Rattle.handles.specs.Told.{mark_name, mark_place_told, mark_told, mark_widget, owner_told, place_by};
+ghost use Rattle.handles.specs.Told.{place_told, span_told, spot_of, spot_told, tag_name, tag_told, tag_widget};
+ghost use Rattle.handles.specs.Told.{text_told, widget_told};
 
 use crate::room::copy_whole;
-use peers::{EditTold, MovedMarks, Spot, TagChange, TextChange};
+use peers::{EditTold, MarkChange, MarkKind, MarkList, Spot, TagChange, TextChange};
 use std::alloc::Global;
+use text_model::Place;
 
-/// The changes of a text and of its tags, and the names of the marks that moved.
+/// The changes of a text and of its tags, and the marks that these alone don't take to where they are.
 #[derive(Drop)]
 pub struct Report {
     pub(crate) edit: EditTold,
-    pub(crate) marks: MovedMarks,
+    pub(crate) marks: MarkList,
 }
 
 impl Report {
@@ -23,7 +25,7 @@ impl Report {
     {
         Report {
             edit: EditTold::nothing(alloc),
-            marks: MovedMarks::new(alloc),
+            marks: MarkList::new(alloc),
         }
     }
 
@@ -110,21 +112,44 @@ impl Report {
         }
     }
 
-    /// How many marks moved.
+    /// How many marks there are.
     pub(crate) fn count_marks(&self) -> usize
         ensures { result ≡ length (telling_of self.now).marks }
     {
         self.marks.as_slice().len()
     }
 
-    /// Copies the prefix of a moved mark's name that fits into the buffer, and returns the name's length.
+    /// Copies the prefix of a mark's name that fits into the buffer, and returns the name's length.
     pub(crate) fn copy_mark(&self, index: usize, room: &mut [u8]) -> usize
         ensures length { result ≡ min (length (mark_told (telling_of self.now).marks index)) usize.MAX }
         ensures copied { room.new ≡ over (mark_told (telling_of self.now).marks index) room.old }
     {
         match self.marks.as_slice().get(index) {
             None => 0,
-            Some(name) => copy_whole(name.as_str(), room),
+            Some(mark) => copy_whole(mark_name(mark), room),
+        }
+    }
+
+    /// Copies the name of the widget whose `insert` or `current` the mark is in the same way; nothing for any other
+    /// mark.
+    pub(crate) fn copy_mark_widget(&self, index: usize, room: &mut [u8]) -> usize
+        ensures length { result ≡ min (length (owner_told (telling_of self.now).marks index)) usize.MAX }
+        ensures copied { room.new ≡ over (owner_told (telling_of self.now).marks index) room.old }
+    {
+        match self.marks.as_slice().get(index) {
+            None => 0,
+            Some(mark) => copy_whole(mark_widget(mark), room),
+        }
+    }
+
+    /// Where a mark is before the command (0), or after it (1 and above); None if it isn't there, or there is no such
+    /// mark.
+    pub(crate) fn mark_place(&self, index: usize, end: usize) -> Option<Place>
+        ensures { result ≡ mark_place_told (telling_of self.now).marks index end }
+    {
+        match self.marks.as_slice().get(index) {
+            None => None,
+            Some(mark) => place_by(mark, end),
         }
     }
 }
@@ -159,5 +184,36 @@ fn tag_widget(change: &TagChange) -> &str
         change.key.name.as_str()
     } else {
         ""
+    }
+}
+
+/// The name of a mark, as its widget knows it.
+fn mark_name(mark: &MarkChange) -> &str
+    ensures { chars result.now ≡ mark_name mark.now }
+{
+    match mark.key.kind {
+        MarkKind::Insert => "insert",
+        MarkKind::Current => "current",
+        MarkKind::Shared => mark.key.name.as_str(),
+    }
+}
+
+/// The name of the widget whose `insert` or `current` a mark is; empty for any other mark.
+fn mark_widget(mark: &MarkChange) -> &str
+    ensures { chars result.now ≡ mark_widget mark.now }
+{
+    match mark.key.kind {
+        MarkKind::Shared => "",
+        _ => mark.key.name.as_str(),
+    }
+}
+
+/// One of the places of a mark, by its number.
+fn place_by(mark: &MarkChange, end: usize) -> Option<Place>
+    ensures { result ≡ place_by mark.now end }
+{
+    match end {
+        0 => mark.old,
+        _ => mark.new,
     }
 }

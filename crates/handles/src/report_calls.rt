@@ -2,14 +2,15 @@
 ghost use Rattle.std.specs.Prelude.{◌≡◌, None, length, min};
 ghost use Rattle.handles.specs.Handles.{reported};
 ghost use Rattle.handles.specs.Room.{over};
-ghost use Rattle.handles.specs.Told.{mark_told, place_told, span_told, spot_told, tag_told, text_told, told_of};
-ghost use Rattle.handles.specs.Told.{widget_told, MakesReport};
+ghost use Rattle.handles.specs.Told.{mark_place_told, mark_told, owner_told, place_told, span_told, spot_told};
+ghost use Rattle.handles.specs.Told.{tag_told, text_told, told_of, widget_told, MakesReport};
 
 use crate::ends::MakeEnd;
 use crate::report::Report;
 use crate::report_handle::ReportHandle;
 use peers::Spot;
 use std::alloc::Global;
+use text_model::Place;
 
 impl ReportHandle {
     /// Makes an empty report in an empty handle.
@@ -157,7 +158,7 @@ impl ReportHandle {
         span
     }
 
-    /// Returns the number of marks that moved.
+    /// Returns the number of marks.
     pub fn count_marks(&mut self, alloc: Global) -> usize
         ensures count { result ≡ length (told_of (reported self.old)).marks }
         ensures unchanged { reported self.new ≡ reported self.old }
@@ -171,7 +172,7 @@ impl ReportHandle {
         count
     }
 
-    /// Copies the prefix of a moved mark's name that fits into the buffer, and returns the name's length.
+    /// Copies the prefix of a mark's name that fits into the buffer, and returns the name's length.
     pub fn copy_mark(&mut self, alloc: Global, index: usize, room: &mut [u8]) -> usize
         ensures length { result ≡ min (length (mark_told (told_of (reported self.old)).marks index)) usize.MAX }
         ensures copied { room.new ≡ over (mark_told (told_of (reported self.old)).marks index) room.old }
@@ -184,5 +185,36 @@ impl ReportHandle {
         let length = report.copy_mark(index, room);
         self.put(report);
         length
+    }
+
+    /// Copies the name of the widget whose `insert` or `current` the mark is in the same way; nothing for any other
+    /// mark.
+    pub fn copy_mark_widget(&mut self, alloc: Global, index: usize, room: &mut [u8]) -> usize
+        ensures length { result ≡ min (length (owner_told (told_of (reported self.old)).marks index)) usize.MAX }
+        ensures copied { room.new ≡ over (owner_told (told_of (reported self.old)).marks index) room.old }
+        ensures unchanged { reported self.new ≡ reported self.old }
+    {
+        if !self.full {
+            return 0;
+        }
+        let report = self.take(alloc);
+        let length = report.copy_mark_widget(index, room);
+        self.put(report);
+        length
+    }
+
+    /// Where a mark is before the command (0), or after it (1 and above); None if it isn't there, or there is no such
+    /// mark.
+    pub fn mark_place(&mut self, alloc: Global, index: usize, end: usize) -> Option<Place>
+        ensures place { result ≡ mark_place_told (told_of (reported self.old)).marks index end }
+        ensures unchanged { reported self.new ≡ reported self.old }
+    {
+        if !self.full {
+            return None;
+        }
+        let report = self.take(alloc);
+        let place = report.mark_place(index, end);
+        self.put(report);
+        place
     }
 }

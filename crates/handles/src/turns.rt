@@ -43,21 +43,23 @@ impl Session {
     }
 
     /// Carries out the command of some words, which stand one behind the other in the bytes, and keeps what it tells
-    /// where that is wanted.
+    /// where that is wanted, with its marks where these are too.
     pub(crate) fn call_bytes(
         &mut self,
         alloc: Global,
         tells: bool,
+        marks: bool,
         bytes: &[u8],
         lengths: &[usize],
     ) -> CallEnd
         ensures plain { tells ≡ false → Called (state_of self.old) lengths.now bytes.now (state_of self.new) result }
-        ensures told { tells ≡ true → CalledTold (state_of self.old) lengths.now bytes.now (state_of self.new) result }
+        ensures told { tells ≡ true →
+            CalledTold marks (state_of self.old) lengths.now bytes.now (state_of self.new) result }
     {
         self.forget_told(alloc, tells);
         let spare = mem::replace(&mut self.spare, Vec::new(alloc));
         match read_words(alloc, spare, bytes, lengths) {
-            Ok(words) => CallEnd::Given(self.call(tells, words)),
+            Ok(words) => CallEnd::Given(self.call(tells, marks, words)),
             Err(WordsFault::Memory) => {
                 self.said = Said::Reply(Err(Fault::Memory));
                 CallEnd::Given(Given::Memory)
@@ -76,26 +78,28 @@ impl Session {
         }
     }
 
-    /// Carries out the command of some words, and keeps what it tells where that is wanted.
-    fn call(&mut self, tells: bool, words: Vec<String>) -> Given
+    /// Carries out the command of some words, and keeps what it tells where that is wanted, with its marks where these
+    /// are too.
+    fn call(&mut self, tells: bool, marks: bool, words: Vec<String>) -> Given
         requires { 0 < vec_len words }
         ensures plain { tells ≡ false → Gives (state_of self.old) (texts_of words.items) (state_of self.new) result }
-        ensures told { tells ≡ true → GivesTold (state_of self.old) (texts_of words.items) (state_of self.new) result }
+        ensures told { tells ≡ true →
+            GivesTold marks (state_of self.old) (texts_of words.items) (state_of self.new) result }
     {
         if tells {
-            self.call_told(words)
+            self.call_told(marks, words)
         } else {
             let reply = self.world.call(&words);
             self.say(words, reply)
         }
     }
 
-    /// Carries out the command of some words, and keeps what it tells.
-    fn call_told(&mut self, words: Vec<String>) -> Given
+    /// Carries out the command of some words, and keeps what it tells, with its marks where these are wanted.
+    fn call_told(&mut self, marks: bool, words: Vec<String>) -> Given
         requires { 0 < vec_len words }
-        ensures { GivesTold (state_of self.old) (texts_of words.items) (state_of self.new) result }
+        ensures { GivesTold marks (state_of self.old) (texts_of words.items) (state_of self.new) result }
     {
-        match self.world.call_told(&words) {
+        match self.world.call_told(&words, marks) {
             Ok(told) => {
                 self.report = Report {
                     edit: told.edit,
@@ -178,15 +182,15 @@ impl Session {
     }
 
     /// Takes the next command of the script that is at hand, and carries it out, and keeps what it tells where that is
-    /// wanted.
-    pub(crate) fn take_turn(&mut self, alloc: Global, tells: bool) -> TurnEnd
+    /// wanted, with its marks where these are too.
+    pub(crate) fn take_turn(&mut self, alloc: Global, tells: bool, marks: bool) -> TurnEnd
         ensures plain { tells ≡ false → Turns (state_of self.old) (state_of self.new) result }
-        ensures told { tells ≡ true → TurnsTold (state_of self.old) (state_of self.new) result }
+        ensures told { tells ≡ true → TurnsTold marks (state_of self.old) (state_of self.new) result }
     {
         self.forget_told(alloc, tells);
         match self.splitter.next_command() {
             Ok(Some(words)) => {
-                let given = self.call(tells, words);
+                let given = self.call(tells, marks, words);
                 self.note(given);
                 TurnEnd::Command(given)
             }

@@ -36,13 +36,15 @@ pub use Rattle.command_table.specs.declared.commands.Command.TheVariants.{Replac
 pub use Rattle.command_table.specs.declared.commands.Command.TheVariants.{TagRaise, TagRemove}
 pub use Rattle.command_table.specs.declared.shapes.Shape.{Shape}
 pub use Rattle.command_table.specs.declared.shapes.ShapeFault.{ShapeFault}
+pub use Rattle.documents.proofs.CarriedLaws.{IsCarried, IsMarked, IsQuiet, IsTagged, IsTextEdited, carried-active}
+pub use Rattle.documents.proofs.CarriedLaws.{carried-with}
 pub use Rattle.documents.proofs.FindLaws.{bytes_eq-turned}
 pub use Rattle.documents.proofs.LeadLaws.{Leads}
+pub use Rattle.documents.proofs.MarkReportLaws.{listed-all, listed-watched, marks-made, marks-peered, marks-put}
+pub use Rattle.documents.proofs.MarkReportLaws.{marks-stand, none-watched, one-watched, own-watched}
 pub use Rattle.documents.proofs.NamesKeptLaws.{HasNamesOf, redo-kept, settings-kept, undo-kept}
 pub use Rattle.documents.proofs.NewNameLaws.{AreNamed, named-carried, named-peer, named-same}
 pub use Rattle.documents.proofs.OptionLeadLaws.{leads-first, leads-left, leads-peer, leads-settings, own-lines}
-pub use Rattle.documents.proofs.StillMarksLaws.{HasMarksOf, marks-configured, marks-peered, marks-quiet, marks-tagged}
-pub use Rattle.documents.proofs.StillMarksLaws.{told-still}
 pub use Rattle.documents.proofs.UndoRunLaws.{AnswersFor, after_times, by_found, by_name, undone-redone}
 pub use Rattle.documents.specs.Deletions.{delete_places, replace_span}
 pub use Rattle.documents.specs.Documents.{Document, Widget, characters, widget_at}
@@ -50,18 +52,21 @@ pub use Rattle.documents.specs.History.{edit_redo, edit_reset, edit_undo, modifi
 pub use Rattle.documents.specs.History.{undone}
 pub use Rattle.documents.specs.Indices.{place_at}
 pub use Rattle.documents.specs.Kept.{is_window_name}
-pub use Rattle.documents.specs.Marks.{mark_offset, place_named, set_found}
-pub use Rattle.documents.specs.MarksTold.{AreMarksTold, MarksTold}
+pub use Rattle.documents.specs.Marks.{mark_offset, mark_unset, place_named, set_found}
+pub use Rattle.documents.specs.MarksTold.{AreCarried, AreOthers, AreWatched, HasMarksBut, TellsMarks, carried_all}
+pub use Rattle.documents.specs.MarksTold.{mark_at, mark_carried, mark_key, mark_keys, own_keys, watched}
 pub use Rattle.documents.specs.Options.{AreLines, IsLine, settings_of, with_settings}
 pub use Rattle.documents.specs.Promise.{Change, Does, Gives, answered, change_with, refused, unless_idle}
 pub use Rattle.documents.specs.Tags.{add_spans, known_or, lowered, raised, remove_spans, reordered}
 pub use Rattle.documents.specs.Texts.{insert_at, insertion_offset, joined_text, tags_with, within_limits}
+pub use Rattle.documents.specs.Told.{IsTold, TellsCells, reply_of}
 pub use Rattle.documents.specs.Views.{is_idle, shown, view_end}
 pub use Rattle.documents.specs.WellFormed.{IsPlaced, IsWellFormedDocument, window_names}
 pub use Rattle.documents.specs.Widgets.{ShowsOpenly, bare_document, is_kept, keeps_some, new_document, new_widget}
 pub use Rattle.documents.specs.Widgets.{thinned, widget_named, with_peer, without_widgets}
-pub use Rattle.peers.specs.Commands.{Call, arguments_of, call_of, command, done, is_frugal_reading, is_told, shaped}
-pub use Rattle.peers.specs.Commands.{switches_of}
+pub use Rattle.documents.specs.declared.mark_lists.MarkKey.{MarkKey}
+pub use Rattle.peers.specs.Commands.{Call, arguments_of, call_of, command, done, edits_text, is_frugal_reading, is_told}
+pub use Rattle.peers.specs.Commands.{shaped, switches_of}
 pub use Rattle.peers.specs.Deletions.{delete, replace, replace_places, replace_words}
 pub use Rattle.peers.specs.History.{edit_modified, modified_word}
 pub use Rattle.peers.specs.Laws.{AnswersBefore, AreSpared, BeginsToKeep, GoesBack, NamesWindow, UndoRuns, after_all}
@@ -69,18 +74,18 @@ pub use Rattle.peers.specs.Laws.{forgets, forgets_read, is_forgotten, is_spared,
 pub use Rattle.peers.specs.Laws.{place_after_all, redo_words, repeated, sets_keeping, text_at, undo_words}
 pub use Rattle.peers.specs.Marks.{gravity_asked, gravity_given, gravity_words, mark_gravity, mark_set, set_at}
 pub use Rattle.peers.specs.Marks.{set_words}
-pub use Rattle.peers.specs.MarksTold.{MarksTellAt, MarksTellOf, edits_reading, edits_text}
+pub use Rattle.peers.specs.MarksTold.{CoversMarks, MarksTellAt, MarksTellOf}
 pub use Rattle.peers.specs.Options.{configure, settings_given}
 pub use Rattle.peers.specs.Queries.{count_between, counted_as, direction_by, direction_of, has_switch, is_direction}
 pub use Rattle.peers.specs.Queries.{searched, stands_for, stop_at, turned}
 pub use Rattle.peers.specs.Ranges.{and_place, places_at}
 pub use Rattle.peers.specs.Step.{Makes, Outcome, are_frugal, changed, create, create_named, create_new, create_shaped}
 pub use Rattle.peers.specs.Step.{create_with, destroy, destroy_shaped, has_widgets, on_found, on_home, on_widget}
-pub use Rattle.peers.specs.Step.{refuses, step}
+pub use Rattle.peers.specs.Step.{refuses, seat_step, step}
 pub use Rattle.peers.specs.Tags.{add_words, next_between, place_or, previous_between, remove_words, tag_add, tag_lower}
 pub use Rattle.peers.specs.Tags.{tag_raise, tag_remove}
 pub use Rattle.peers.specs.Texts.{got, insert_pairs, insert_words, text_of, texts_of_places}
-pub use Rattle.peers.specs.Told.{AreTold, TellsAll, TellsAt, TellsOf, answer_of, edited, moved, no_edit}
+pub use Rattle.peers.specs.Told.{AreTold, IsPlain, TellsAt, TellsOf, answer_of, edited, no_edit}
 pub use Rattle.peers.specs.WellFormed.{IsWellFormed}
 pub use Rattle.peers.specs.Widgets.{peer_create, peer_settings, peer_with, peer_words}
 pub use Rattle.peers.specs.Windows.{Homes, home_in, home_kept, homes_from, homes_of, names_in, places_in}
@@ -100,7 +105,6 @@ pub use Rattle.std.proofs.lemmas.Result.{IfOk-weaker}
 pub use Rattle.std.proofs.lemmas.Slice.Eq.{bytes_eq-Decides}
 pub use Rattle.std.proofs.lemmas.Str.{IsUtf8-past_char, IsUtf8-string_bytes, chars-nil, chars_past_char, encode_ascii}
 pub use Rattle.std.proofs.lemmas.Str.{encodes-chars}
-pub use Rattle.std.specs.Bool.{MatchBool}
 pub use Rattle.std.specs.List.{All, AllByRecursion, IsDistinct}
 pub use Rattle.std.specs.Map.{keys_of, lookup, values_of}
 pub use Rattle.std.specs.Option.{option_map_or}

@@ -14,9 +14,9 @@ use Rattle.peers.proofs.Common.{replace_places, replace_words, gravity_asked, gr
 use Rattle.peers.proofs.Common.{mark_gravity, mark_set, set_at, set_words, configure, settings_given, places_at}
 use Rattle.peers.proofs.Common.{add_words, remove_words, tag_add, tag_lower, tag_raise, tag_remove, insert_pairs}
 use Rattle.peers.proofs.Common.{insert_words, peer_create, peer_settings, peer_with, Result, nat_le, nat_lt}
-use Rattle.peers.proofs.Common.{if◌then◌else◌, Gravity, Place, gravity_of, edit_modified, modified_word}
+use Rattle.peers.proofs.Common.{if◌then◌else◌, Gravity, Place, gravity_of, edit_modified, modified_word, IsCarried}
+use Rattle.peers.proofs.Common.{IsTextEdited, IsMarked, IsQuiet, IsTagged, carried-active, carried-with}
 use Rattle.peers.specs.Texts.{insert}
-use Rattle.documents.proofs.CarriedLaws.{IsCarried, IsMarked, IsQuiet, IsTagged, carried-active, carried-with}
 use Rattle.documents.proofs.IndexPlaceLaws.{place-within}
 
 -- ---- places of indices
@@ -81,8 +81,9 @@ IsTagEdit TagRemove = ⊤
 IsTagEdit TagDelete = ⊤
 IsTagEdit command = ⊥
 
--- a command that sets marks or takes them out
+-- a command that sets marks, gives them another gravity or takes them out
 abbrev pub IsMarkMove : Command → Type 0
+IsMarkMove MarkGravity = ⊤
 IsMarkMove MarkSet = ⊤
 IsMarkMove MarkUnset = ⊤
 IsMarkMove command = ⊥
@@ -102,26 +103,6 @@ calling limits windows widget switches position arguments = record {
 
 module _ (limits : LimitTable) (document : Document) (widget : Widget) (P : Document →
     Type 0) (quiet : IsQuiet limits document widget P) where
-  asks-gravity : (position : ℕ) (found : Option Place) → P (gravity_asked document position found).document
-  asks-gravity position None = quiet.same
-  asks-gravity position (Some place) = quiet.same
-
-  gives-gravity : (position : ℕ) (name : List ℕ) (found : Option Place) (gravity : Option Gravity) →
-      place_named document widget name ≡ found → P (gravity_given document widget position name found gravity).document
-  gives-gravity position name None gravity is = quiet.same
-  gives-gravity position name (Some place) None is = quiet.same
-  gives-gravity position name (Some place) (Some gravity) is = quiet.turned name place gravity is
-
-  turns-words : (position : ℕ) (words : List ℕ × Option (List ℕ)) →
-      P (gravity_words document widget position words).document
-  turns-words position (name, None) = asks-gravity position (place_named document widget name)
-  turns-words position (name, Some word) =
-      gives-gravity position name (place_named document widget name) (gravity_of word) refl
-
-  turns : (position : ℕ) (words : List (List ℕ)) → P (mark_gravity document widget position words).document
-  turns position words =
-      carried-with P document (one_or_two_of words) (gravity_words document widget position) quiet.same (λ given _. turns-words position given)
-
   raises : (position : ℕ) (words : List (List ℕ)) → P (tag_raise document position words).document
   raises position words = carried-with P document (one_or_two_of words) (reordered document position raised) quiet.same
       (λ given _. quiet.ordered position raised given)
@@ -149,7 +130,7 @@ module _ (limits : LimitTable) (document : Document) (widget : Widget) (P : Docu
   quiet-done Insert windows switches position arguments edit tag move other = edit tt
   quiet-done Delete windows switches position arguments edit tag move other = edit tt
   quiet-done Replace windows switches position arguments edit tag move other = edit tt
-  quiet-done MarkGravity windows switches position arguments edit tag move other = turns position arguments
+  quiet-done MarkGravity windows switches position arguments edit tag move other = move tt
   quiet-done MarkSet windows switches position arguments edit tag move other = move tt
   quiet-done MarkUnset windows switches position arguments edit tag move other = move tt
   quiet-done TagAdd windows switches position arguments edit tag move other = tag tt
@@ -196,6 +177,26 @@ module _ (limits : LimitTable) (document : Document) (widget : Widget) (P : Docu
 
 module _ (limits : LimitTable) (document : Document) (widget : Widget) (P : Document → Type 0) (same : P document)
     (marked : IsMarked limits document widget P) where
+  asks-gravity : (position : ℕ) (found : Option Place) → P (gravity_asked document position found).document
+  asks-gravity position None = same
+  asks-gravity position (Some place) = same
+
+  gives-gravity : (position : ℕ) (name : List ℕ) (found : Option Place) (gravity : Option Gravity) →
+      place_named document widget name ≡ found → P (gravity_given document widget position name found gravity).document
+  gives-gravity position name None gravity is = same
+  gives-gravity position name (Some place) None is = same
+  gives-gravity position name (Some place) (Some gravity) is = marked.turned name place gravity is
+
+  turns-words : (position : ℕ) (words : List ℕ × Option (List ℕ)) →
+      P (gravity_words document widget position words).document
+  turns-words position (name, None) = asks-gravity position (place_named document widget name)
+  turns-words position (name, Some word) =
+      gives-gravity position name (place_named document widget name) (gravity_of word) refl
+
+  turns : (position : ℕ) (words : List (List ℕ)) → P (mark_gravity document widget position words).document
+  turns position words =
+      carried-with P document (one_or_two_of words) (gravity_words document widget position) same (λ given _. turns-words position given)
+
   sets : (position : ℕ) (words : List (List ℕ)) → P (mark_set limits document widget position words).document
   sets position words =
       carried-with P document (two_of words) (set_words limits document widget position) same (λ given _.
@@ -206,26 +207,27 @@ module _ (limits : LimitTable) (document : Document) (widget : Widget) (P : Docu
   pub marks-done : (command : Command) (windows switches : List (List ℕ)) (position : ℕ) (arguments : List (List ℕ)) →
       IsMarkMove command
       → P (done command document (calling limits windows widget switches position arguments)).document
+  marks-done MarkGravity windows switches position arguments is = turns position arguments
   marks-done MarkSet windows switches position arguments is = sets position arguments
   marks-done MarkUnset windows switches position arguments is = marked.unset arguments
   marks-done command windows switches position arguments is = absurd is
 
 -- ---- commands that edit the text
 
-module _ (limits : LimitTable) (document : Document) (widget : Widget) (P : Document →
-    Type 0) (carried : IsCarried limits document widget P) where
+module _ (limits : LimitTable) (document : Document) (widget : Widget) (P : Document → Type 0) (same : P document)
+    (edited : IsTextEdited limits document widget P) where
   inserts : (position : ℕ) (words : List (List ℕ)) → P (insert limits document widget position words).document
   inserts position words =
-      carried-with P document (first_of words) (insert_words limits document widget position) carried.quiet.same
+      carried-with P document (first_of words) (insert_words limits document widget position) same
       (λ given _.
       carried-with P document (place_at document widget position given.0)
-      (insert_pairs limits document widget (pairs_at (position + 1) given.1)) carried.quiet.same (λ place _.
+      (insert_pairs limits document widget (pairs_at (position + 1) given.1)) same (λ place _.
       carried-with P document (pairs_at (position + 1) given.1)
       (λ pairs. unless_idle widget document (insert_at limits document widget (insertion_offset document widget place)
-      pairs)) carried.quiet.same (λ pairs _.
+      pairs)) same (λ pairs _.
       carried-active P document widget (insert_at limits document widget (insertion_offset document widget place) pairs)
-      carried.quiet.same
-      (carried.inserted place pairs))))
+      same
+      (edited.inserted place pairs))))
 
   replaces-places : (second from to : ℕ) (pairs : List Pair) →
       P (replace_places limits document widget second from to pairs).document
@@ -234,52 +236,54 @@ module _ (limits : LimitTable) (document : Document) (widget : Widget) (P : Docu
       (insertion_offset document widget to) pairs in
       elim (nat_lt to from) as (λ b. nat_lt to from ≡ b →
       P (if b then refused document (IndexOrder second) else unless_idle widget document change).document) [
-        | true ↦ λ _. carried.quiet.same
-        | false ↦ λ ordered. carried-active P document widget change carried.quiet.same (λ busy.
-            carried.replaced from to pairs busy (ltb-false to from ordered))
+        | true ↦ λ _. same
+        | false ↦ λ ordered. carried-active P document widget change same (λ busy.
+            edited.replaced from to pairs busy (ltb-false to from ordered))
       ] refl
 
   replaces : (position : ℕ) (words : List (List ℕ)) → P (replace limits document widget position words).document
   replaces position words =
-      carried-with P document (first_two_of words) (replace_words limits document widget position) carried.quiet.same
+      carried-with P document (first_two_of words) (replace_words limits document widget position) same
       (λ given _.
       carried-with P document (place_at document widget position given.0) (λ from.
       change_with document (place_at document widget (position + 1) given.1) (λ to.
       change_with document (pairs_at (position + 2) given.2) (replace_places limits document widget (position + 1) from to)))
-      carried.quiet.same (λ from _.
+      same (λ from _.
       carried-with P document (place_at document widget (position + 1) given.1) (λ to.
       change_with document (pairs_at (position + 2) given.2) (replace_places limits document widget (position + 1) from to))
-      carried.quiet.same (λ to _.
+      same (λ to _.
       carried-with P document (pairs_at (position + 2) given.2) (replace_places limits document widget (position + 1) from to)
-      carried.quiet.same (λ pairs _.
+      same (λ pairs _.
       replaces-places (position + 1) from to pairs))))
 
   deletes : (position : ℕ) (words : List (List ℕ)) → P (delete document widget position words).document
   deletes position words =
       carried-with P document (places_at document widget position words) (λ places.
-      unless_idle widget document (delete_places document widget places)) carried.quiet.same
+      unless_idle widget document (delete_places document widget places)) same
       (λ places is.
-      carried-active P document widget (delete_places document widget places) carried.quiet.same (λ busy.
-      carried.deleted places busy (λ within. places-within document widget position words places within is)))
+      carried-active P document widget (delete_places document widget places) same (λ busy.
+      edited.deleted places busy (λ within. places-within document widget position words places within is)))
 
-  edits : (command : Command) (windows switches : List (List ℕ)) (position : ℕ) (arguments : List (List ℕ)) →
+  pub edits-done : (command : Command) (windows switches : List (List ℕ)) (position : ℕ) (arguments : List (List ℕ)) →
       IsTextEdit command
       → P (done command document (calling limits windows widget switches position arguments)).document
-  edits Insert windows switches position arguments is = inserts position arguments
-  edits Delete windows switches position arguments is = deletes position arguments
-  edits Replace windows switches position arguments is = replaces position arguments
-  edits EditUndo windows switches position arguments is = carried.undone
-  edits EditRedo windows switches position arguments is = carried.redone
-  edits command windows switches position arguments is = absurd is
+  edits-done Insert windows switches position arguments is = inserts position arguments
+  edits-done Delete windows switches position arguments is = deletes position arguments
+  edits-done Replace windows switches position arguments is = replaces position arguments
+  edits-done EditUndo windows switches position arguments is = edited.undone
+  edits-done EditRedo windows switches position arguments is = edited.redone
+  edits-done command windows switches position arguments is = absurd is
 
-  -- ---- any command but three
+-- ---- any command but three
 
+module _ (limits : LimitTable) (document : Document) (widget : Widget) (P : Document →
+    Type 0) (carried : IsCarried limits document widget P) where
   pub carried-done : (command : Command) (windows switches : List (List ℕ)) (position : ℕ) (arguments : List (List ℕ))
       → let made = (done command document (calling limits windows widget switches position arguments)).document in
       (IsOther command → P made) → P made
   carried-done command windows switches position arguments other =
       quiet-done limits document widget P carried.quiet command windows switches position arguments
-      (edits command windows switches position arguments)
+      (edits-done limits document widget P carried.quiet.same carried.edited command windows switches position arguments)
       (tags-done limits document widget P carried.quiet.same carried.tagged command windows switches position arguments)
       (marks-done limits document widget P carried.quiet.same carried.marked command windows switches position arguments)
       other

@@ -1,19 +1,15 @@
 -- What is told of a command of a widget; and one that is no edit of the text or of tags leaves the characters with
 -- their tags.
-use Rattle.peers.proofs.Common.{◌≡◌, ◌≢◌, ℕ, Bool, true, false, List, [], Some, Ok, Err, refl, sym, ap, ◌∙◌, subst}
-use Rattle.peers.proofs.Common.{Result, true≢false, LimitTable, Command, Delete, EditRedo, EditUndo, Insert, MarkSet}
-use Rattle.peers.proofs.Common.{MarkUnset, Replace, TagAdd, TagDelete, TagRemove, Answer, Fault, Memory, Document}
-use Rattle.peers.proofs.Common.{Widget, Change, Does, MarksTold, widget_named, done, answer_of, no_edit}
-use Rattle.peers.proofs.Common.{MatchBool, AreMarksTold, is_told, edits_text, AreTold, edited, moved, Told, HasMarksOf}
-use Rattle.peers.proofs.Common.{told-still}
-use Rattle.documents.specs.Told.{TellsCells, IsTold, reply_of}
+use Rattle.peers.proofs.Common.{◌≡◌, ◌≢◌, ℕ, Bool, true, false, List, [], Ok, Err, refl, sym, ap, ◌∙◌, subst, IfOk}
+use Rattle.peers.proofs.Common.{Result, true≢false, LimitTable, Command, Delete, EditRedo, EditUndo, Insert, Replace}
+use Rattle.peers.proofs.Common.{TagAdd, TagDelete, TagRemove, Answer, Fault, Memory, Document, Widget, Change, Does}
+use Rattle.peers.proofs.Common.{done, answer_of, no_edit, is_told, AreTold, IsPlain, edited, Told, TellsCells, IsTold}
+use Rattle.peers.proofs.Common.{reply_of}
 use Rattle.documents.specs.declared.told.EditTold.{EditTold}
 use Rattle.peers.specs.Told.{answered}
 use Rattle.documents.proofs.StillCellLaws.{HasCellsOf, cells-marked, cells-quiet}
+use Rattle.peers.proofs.DoneLaws.{IsTagEdit, IsTextEdit, calling, other-done, quiet-done, marks-done as moved-done}
 use Rattle.documents.proofs.ToldLaws.{still-tells}
-use Rattle.peers.proofs.DoneLaws.{IsMarkMove, IsTagEdit, IsTextEdit, calling, other-done, quiet-done}
-use Rattle.peers.proofs.DoneLaws.{marks-done as moved-done}
-use Rattle.peers.proofs.MarksToldLaws.{marks-done, no-text}
 use Rattle.peers.proofs.PromiseLaws.{value≢memory}
 use Rattle.peers.proofs.StillTextLaws.{still-text}
 
@@ -31,23 +27,19 @@ module _ (limits : LimitTable) (windows : List (List ℕ)) (document : Document)
       (other-done limits windows document widget (HasCellsOf document) refl (λ settings. refl) (λ name settings. refl)
       refl command switches position arguments)
 
--- a command that isn't one of those tells nothing
+-- a command that isn't one of those edits neither the text nor tags
 pub quiet-else : (command : Command) → command ≢ Insert → command ≢ Delete → command ≢ Replace → command ≢ EditUndo →
-    command ≢ EditRedo → command ≢ TagAdd → command ≢ TagRemove → command ≢ TagDelete → command ≢ MarkSet →
-    command ≢ MarkUnset → is_told command ≡ false
-quiet-else Insert insert delete replace undo redo add remove gone set unset = absurd (insert refl)
-quiet-else Delete insert delete replace undo redo add remove gone set unset = absurd (delete refl)
-quiet-else Replace insert delete replace undo redo add remove gone set unset = absurd (replace refl)
-quiet-else EditUndo insert delete replace undo redo add remove gone set unset = absurd (undo refl)
-quiet-else EditRedo insert delete replace undo redo add remove gone set unset = absurd (redo refl)
-quiet-else TagAdd insert delete replace undo redo add remove gone set unset = absurd (add refl)
-quiet-else TagRemove insert delete replace undo redo add remove gone set unset = absurd (remove refl)
-quiet-else TagDelete insert delete replace undo redo add remove gone set unset = absurd (gone refl)
-quiet-else MarkSet insert delete replace undo redo add remove gone set unset = absurd (set refl)
-quiet-else MarkUnset insert delete replace undo redo add remove gone set unset = absurd (unset refl)
-quiet-else command insert delete replace undo redo add remove gone set unset = refl
+    command ≢ EditRedo → command ≢ TagAdd → command ≢ TagRemove → command ≢ TagDelete → is_told command ≡ false
+quiet-else Insert insert delete replace undo redo add remove gone = absurd (insert refl)
+quiet-else Delete insert delete replace undo redo add remove gone = absurd (delete refl)
+quiet-else Replace insert delete replace undo redo add remove gone = absurd (replace refl)
+quiet-else EditUndo insert delete replace undo redo add remove gone = absurd (undo refl)
+quiet-else EditRedo insert delete replace undo redo add remove gone = absurd (redo refl)
+quiet-else TagAdd insert delete replace undo redo add remove gone = absurd (add refl)
+quiet-else TagRemove insert delete replace undo redo add remove gone = absurd (remove refl)
+quiet-else TagDelete insert delete replace undo redo add remove gone = absurd (gone refl)
+quiet-else command insert delete replace undo redo add remove gone = refl
 
--- a command that tells nothing edits neither the text nor tags, and moves no marks
 quiet-text : (command : Command) → is_told command ≡ false → IsTextEdit command → ⊥
 quiet-text Insert quiet edit = true≢false quiet
 quiet-text Delete quiet edit = true≢false quiet
@@ -62,29 +54,12 @@ quiet-tags TagRemove quiet edit = true≢false quiet
 quiet-tags TagDelete quiet edit = true≢false quiet
 quiet-tags command quiet edit = edit
 
-quiet-marks : (command : Command) → is_told command ≡ false → IsMarkMove command → ⊥
-quiet-marks MarkSet quiet move = true≢false quiet
-quiet-marks MarkUnset quiet move = true≢false quiet
-quiet-marks command quiet move = move
-
-quiet-edits : (command : Command) → is_told command ≡ false → edits_text command ≡ false
-quiet-edits Insert quiet = quiet
-quiet-edits Delete quiet = quiet
-quiet-edits Replace quiet = quiet
-quiet-edits EditUndo quiet = quiet
-quiet-edits EditRedo quiet = quiet
-quiet-edits command quiet = refl
-
 -- ---- what is told of a command that is carried out
 
 -- the answer among what is told
 pub answer-edited : (made : Result EditTold Fault) → answer_of (edited made) ≡ reply_of made
 answer-edited (Ok edit) = refl
 answer-edited (Err fault) = refl
-
-pub answer-moved : (made : Result (List (List ℕ)) Fault) → answer_of (moved made) ≡ reply_of made
-answer-moved (Ok marks) = refl
-answer-moved (Err fault) = refl
 
 pub answer-answered : (made : Result Answer Fault) → answer_of (answered made) ≡ made
 answer-answered (Ok answer) = refl
@@ -96,12 +71,6 @@ pub does-edited : {limits : LimitTable} {old new : Document} {change : Change} (
     → Does limits old new (answer_of result) change
 does-edited {limits} {old} {new} {change} made result is does =
     subst (λ r. Does limits old new r change) (sym (ap answer_of is ∙ answer-edited made)) does
-
-pub does-moved : {limits : LimitTable} {old new : Document} {change : Change} (made : Result (List (List ℕ)) Fault)
-    (result : Result Told Fault) → result ≡ moved made → Does limits old new (reply_of made) change
-    → Does limits old new (answer_of result) change
-does-moved {limits} {old} {new} {change} made result is does =
-    subst (λ r. Does limits old new r change) (sym (ap answer_of is ∙ answer-moved made)) does
 
 pub does-answered : {limits : LimitTable} {old new : Document} {change : Change} (made : Result Answer Fault)
     (result : Result Told Fault) → result ≡ answered made → Does limits old new made change
@@ -127,63 +96,36 @@ still-cells change old new still same =
     subst (λ edits. TellsCells edits old.cells new.cells no_edit) (sym still)
     (still-tells old.cells new.cells same)
 
--- a command that edits the text
-pub told-text : (change : Change) (old new : Document) (follows : Bool) (widget : Widget)
-    (result : Result EditTold Fault) → IsTold follows change old new result
-    → AreTold follows true change old new widget (edited result)
-told-text change old new follows widget (Ok edit) told = λ yes. record { text = told yes; marks = refl }
-told-text change old new follows widget (Err fault) told = λ _. tt
+-- a command that edits the text or its tags
+pub told-edited : (change : Change) (old new : Document) (follows : Bool) (result : Result EditTold Fault)
+    → IsTold follows change old new result → AreTold follows change old new (edited result)
+told-edited change old new follows (Ok edit) told = λ yes. told yes
+told-edited change old new follows (Err fault) told = λ _. tt
 
--- what a command makes
-abbrev pub made : LimitTable → List (List ℕ) → Document → Widget → List (List ℕ) → ℕ → List (List ℕ) → Command →
-    Change
-made limits windows old widget switches position arguments command =
-    done command old (calling limits windows widget switches position arguments)
+-- any other command
+pub told-quiet : (limits : LimitTable) (old new : Document) (follows : Bool) (windows : List (List ℕ)) (widget : Widget)
+    (switches : List (List ℕ)) (position : ℕ) (arguments : List (List ℕ)) (command : Command)
+    (result : Result Answer Fault) → is_told command ≡ false
+    → let change = done command old (calling limits windows widget switches position arguments) in
+    Does limits old new result change → AreTold follows change old new (answered result)
+told-quiet limits old new follows windows widget switches position arguments command (Ok answer) quiet does = λ _.
+    still-cells (done command old (calling limits windows widget switches position arguments)) old new
+    (still-text limits windows old widget command switches position arguments (quiet-text command quiet))
+    (made-holds (HasCellsOf old) does (cells-done limits windows old widget command switches position arguments
+    (quiet-text command quiet) (quiet-tags command quiet)))
+told-quiet limits old new follows windows widget switches position arguments command (Err fault) quiet does = λ _. tt
 
-module _ (limits : LimitTable) (old new : Document) (follows : Bool) (windows : List (List ℕ)) (widget : Widget)
-    (switches : List (List ℕ)) (position : ℕ) (arguments : List (List ℕ)) where
-  -- a command that edits tags
-  pub told-tags : (command : Command) (result : Result EditTold Fault) → edits_text command ≡ false →
-      (IsMarkMove command → ⊥) → Does limits old new (reply_of result) (made limits windows old widget switches position arguments command)
-      → IsTold follows (made limits windows old widget switches position arguments command) old new result
-      → AreTold follows false (made limits windows old widget switches position arguments command) old new widget
-      (edited result)
-  told-tags command (Ok edit) other still does told = λ yes. record {
-    text = told yes;
-    marks = λ window found. told-still window old new (made-holds (HasMarksOf window old) does
-        (marks-done limits windows old widget window found command switches position arguments (no-text command other)
-        still));
-  }
-  told-tags command (Err fault) other still does told = λ _. tt
+-- ---- what else is known of a report
 
-  -- a command that moves marks
-  pub told-marks : (command : Command) (result : Result (List (List ℕ)) Fault) → (IsTextEdit command → ⊥) →
-      (IsTagEdit command → ⊥) → Does limits old new (reply_of result) (made limits windows old widget switches position arguments command)
-      → AreMarksTold follows old new widget result
-      → AreTold follows false (made limits windows old widget switches position arguments command) old new widget
-      (moved result)
-  told-marks command (Ok marks) text tags does told = λ yes. record {
-    text = still-cells (made limits windows old widget switches position arguments command) old new
-        (still-text limits windows old widget command switches position arguments text)
-        (made-holds (HasCellsOf old) does
-        (cells-done limits windows old widget command switches position arguments text tags));
-    marks = told yes;
-  }
-  told-marks command (Err fault) text tags does told = λ _. tt
+pub plain-answered : (edits : Bool) (made : Result Answer Fault) → IfOk (answered made) (IsPlain edits)
+plain-answered edits (Ok answer) = record { marks = refl; still = λ _. refl }
+plain-answered edits (Err fault) = tt
 
-  -- any other command
-  pub told-quiet : (command : Command) (result : Result Answer Fault) → is_told command ≡ false →
-      Does limits old new result (made limits windows old widget switches position arguments command)
-      → AreTold follows (edits_text command) (made limits windows old widget switches position arguments command) old
-      new widget (answered result)
-  told-quiet command (Ok answer) quiet does = λ _. record {
-    text = still-cells (made limits windows old widget switches position arguments command) old new
-        (still-text limits windows old widget command switches position arguments (quiet-text command quiet))
-        (made-holds (HasCellsOf old) does (cells-done limits windows old widget command switches
-        position arguments (quiet-text command quiet) (quiet-tags command quiet)));
-    marks = subst (λ edits. MatchBool edits (◌≡◌ {A = List (List ℕ)} [] []) ((window : List ℕ) → widget_named window old ≡ Some widget
-        → MarksTold window old new [])) (sym (quiet-edits command quiet)) (λ window found. told-still window old new
-        (made-holds (HasMarksOf window old) does (marks-done limits windows old widget window found command switches
-        position arguments (quiet-text command quiet) (quiet-marks command quiet))));
-  }
-  told-quiet command (Err fault) quiet does = λ _. tt
+pub plain-text : (made : Result EditTold Fault) → IfOk (edited made) (IsPlain true)
+plain-text (Ok edit) = record { marks = refl; still = λ no. absurd (true≢false no) }
+plain-text (Err fault) = tt
+
+pub plain-tags : (made : Result EditTold Fault) → IfOk made (λ told. told.changes ≡ []) →
+    IfOk (edited made) (IsPlain false)
+plain-tags (Ok edit) still = record { marks = refl; still = λ _. still }
+plain-tags (Err fault) still = tt

@@ -3,15 +3,13 @@ use Rattle.peers.proofs.Common.{◌≡◌, ℕ, ◌<◌, true, false, List, [], 
 use Rattle.peers.proofs.Common.{get_or, String, string_bytes, texts_of, length, Result, IfOk, Fault, subst, true≢false}
 use Rattle.peers.proofs.Common.{bytes_eq-Decides, reading, Answer, if◌then◌else◌, step, create_shaped, destroy_shaped}
 use Rattle.peers.proofs.Common.{on_widget, is_frugal_reading, are_frugal, is_same, literal, Document, Widget}
-use Rattle.peers.proofs.Common.{is_window_name, IsWellFormedDocument, widget_named, MarksTold, Shape, PeerCreate, Makes}
-use Rattle.peers.proofs.Common.{changed, peer_create, TellsAt, TellsOf, MarksTellAt, MarksTellOf, edits_reading}
-use Rattle.peers.proofs.Common.{edits_text, no_edit, IsWellFormed, World, all_windows, document_at, home, MatchBool}
-use Rattle.peers.proofs.Common.{TellsAll, Told, told-still, Change}
+use Rattle.peers.proofs.Common.{is_window_name, IsWellFormedDocument, PeerCreate, Makes, changed, peer_create, TellsAt}
+use Rattle.peers.proofs.Common.{TellsOf, MarksTellAt, MarksTellOf, no_edit, IsWellFormed, World, all_windows}
+use Rattle.peers.proofs.Common.{document_at, home, Told, TellsCells}
 use Rattle.std.specs.Str.{chars}
 use Rattle.peers.specs.Told.{answered}
 use Rattle.peers.proofs.FrontLaws.{set-at}
 use Rattle.peers.proofs.HomeStepLaws.{home-is}
-use Rattle.peers.proofs.MarksToldLaws.{marks-done}
 use Rattle.peers.proofs.NameLaws.{placed-window}
 use Rattle.peers.proofs.PromiseLaws.{value≢memory}
 use Rattle.peers.proofs.StillTextLaws.{still-text}
@@ -20,32 +18,14 @@ use Rattle.peers.proofs.WorldLaws.{all-at}
 
 -- ---- a command of a widget
 
--- the marks that are told where a command of this shape changed the document at a place
-pub marks-placed : (old new : World) (name : List ℕ) (words : List (List ℕ)) (place : ℕ) (shape : Shape)
-    (widget : Widget) (change : Change) (told : Told) → reading words ≡ Ok shape
-    → widget_named name (document_at old.documents place) ≡ Some widget
-    → TellsAll (edits_text shape.command) change (document_at old.documents place) (document_at new.documents place)
-    widget told
-    → MarksTellAt old new name words (Some place) told.marks
-marks-placed old new name words place shape widget change told read found tells =
-    let before = document_at old.documents place in let after = document_at new.documents place in
-    let One : Type 0 = MarksTold name before after told.marks in
-    let Each : Type 0 = (window : List ℕ) → widget_named window before ≡ Some widget →
-    MarksTold window before after told.marks in
-    subst (λ found. MatchBool (edits_reading found) (told.marks ≡ []) One) (sym read)
-    (elim (edits_text shape.command) as (λ b. MatchBool b (told.marks ≡ []) Each → MatchBool b (told.marks ≡ []) One) [
-      | true ↦ λ none. none
-      | false ↦ λ some. some name found
-    ] tells.marks)
-
--- a peer that is made changes no character of the document, and no mark
+-- a peer that is made changes no character of the document
 pub peer-tells : (old new : World) (place position : ℕ) (arguments : List (List ℕ)) (widget : Widget)
     (made : Result Answer Fault) → place < length old.documents → Makes old new made
     (changed old place (peer_create old.limits (all_windows old) (document_at old.documents place) widget position
     arguments))
-    → IfOk (answered made) (TellsAll false
-    (peer_create old.limits (all_windows old) (document_at old.documents place) widget position arguments)
-    (document_at old.documents place) (document_at new.documents place) widget)
+    → IfOk (answered made) (λ told. TellsAt old new (Some place)
+    (peer_create old.limits (all_windows old) (document_at old.documents place) widget position arguments).edits
+    told.edit)
 peer-tells old new place position arguments widget (Err fault) within makes = tt
 peer-tells old new place position arguments widget (Ok answer) within makes =
     let document = document_at old.documents place in
@@ -53,15 +33,11 @@ peer-tells old new place position arguments widget (Ok answer) within makes =
     let is : document_at new.documents place ≡ made.document =
     ap (λ (w : World). document_at w.documents place) (makes.world (value≢memory (Ok answer) answer refl))
     ∙ set-at old.documents place made.document within in
-    subst (λ (d : Document).
-    TellsAll false made document d widget (record { answer = answer; edit = no_edit; marks = [] })) (sym is) (record {
-      text = still-cells made document made.document
-          (still-text old.limits (all_windows old) document widget PeerCreate [] position arguments (λ edit. edit))
-          (cells-done old.limits (all_windows old) document widget PeerCreate []
-          position arguments (λ edit. edit) (λ edit. edit));
-      marks = λ window found. told-still window document made.document (marks-done old.limits (all_windows old) document
-          widget window found PeerCreate [] position arguments (λ edit. edit) (λ move. move));
-    })
+    subst (λ (d : Document). TellsCells made.edits document.cells d.cells no_edit) (sym is)
+    (still-cells made document made.document
+    (still-text old.limits (all_windows old) document widget PeerCreate [] position arguments (λ edit. edit))
+    (cells-done old.limits (all_windows old) document widget PeerCreate []
+    position arguments (λ edit. edit) (λ edit. edit)))
 
 -- ---- any command
 
@@ -100,14 +76,14 @@ pub unnamed : {Z : Type 0} (old new : World) (words : List (String Z)) (first : 
     → IsWellFormed old → 0 < length words → first ≡ get_or words 0 first
     → is_window_name (chars (string_bytes first)) ≡ false
     → IfOk (answered made) (λ told. TellsOf old new (texts_of words) told.edit
-    × MarksTellOf old new (texts_of words) told.marks)
+    × MarksTellOf old new (texts_of words) told.edit.changes told.marks)
 unnamed old new words first (Err fault) formed within is none = tt
 unnamed old new words first (Ok answer) formed within is none =
     let name = chars (string_bytes first) in let absent = homeless old name formed none in
     let spelled = first-word words first within is in
-    subst (λ ws. TellsOf old new ws no_edit × MarksTellOf old new ws []) (sym spelled.1) (
+    subst (λ ws. TellsOf old new ws no_edit × MarksTellOf old new ws [] []) (sym spelled.1) (
       subst (λ at. TellsAt old new at (step old (name ∷ spelled.0)).edits no_edit) (sym absent) refl,
-      subst (λ at. MarksTellAt old new name (name ∷ spelled.0) at []) (sym absent) refl,
+      subst (λ at. MarksTellAt old new at [] []) (sym absent) refl,
     )
 
 -- a command of a widget tells what it tells of the document that the widget shows
@@ -124,14 +100,12 @@ named old new words first within is result tells =
 
 pub named-marks : {Z : Type 0} (old new : World) (words : List (String Z)) (first : String Z) → 0 < length words
     → first ≡ get_or words 0 first → (result : Result Told Fault)
-    → let name = chars (string_bytes first) in let at = home name old.documents in
-    IfOk result (λ told. MarksTellAt old new name (texts_of words) at told.marks)
-    → IfOk result (λ told. MarksTellOf old new (texts_of words) told.marks)
+    → let at = home (chars (string_bytes first)) old.documents in
+    IfOk result (λ told. MarksTellAt old new at told.edit.changes told.marks)
+    → IfOk result (λ told. MarksTellOf old new (texts_of words) told.edit.changes told.marks)
 named-marks old new words first within is result tells =
-    let name = chars (string_bytes first) in let spelled = first-word words first within is in
-    subst (λ ws. IfOk result (λ told. MarksTellOf old new ws told.marks)) (sym spelled.1)
-    (subst (λ ws. IfOk result (λ told. MarksTellAt old new name ws (home name old.documents) told.marks)) spelled.1
-    tells)
+    subst (λ ws. IfOk result (λ told. MarksTellOf old new ws told.edit.changes told.marks))
+    (sym (first-word words first within is).1) tells
 
 -- what a command is, by its first word
 module _ {Z : Type 0} (world : World) (words : List (String Z)) (first : String Z) (within : 0 < length words)

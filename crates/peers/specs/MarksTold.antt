@@ -1,37 +1,30 @@
--- What is told of a command: the names of the marks that it moved, as its widget knows marks.
-use Rattle.std.specs.Prelude.{◌≡◌, ℕ, Bool, true, false, List, [], ◌∷◌, Option, None, Some, Result, Ok, Err}
+-- Which marks a report has: those of the text that the command's widget shows.
+use Rattle.std.specs.Prelude.{◌≡◌, ℕ, List, [], ◌∷◌, Option, None, Some}
 use Rattle.std.specs.Bool.{MatchBool}
-use Rattle.command_table.specs.Reading.{reading}
+use Rattle.edit_ops.specs.declared.changes.TextChange.{TextChange}
 use Rattle.command_table.specs.declared.commands.Command.{Command}
-use Rattle.command_table.specs.declared.commands.Command.TheVariants.{Insert, Delete, Replace, EditUndo, EditRedo}
-use Rattle.command_table.specs.declared.shapes.Shape.{Shape}
-use Rattle.command_table.specs.declared.shapes.ShapeFault.{ShapeFault}
-use Rattle.documents.specs.MarksTold.{MarksTold}
+use Rattle.documents.specs.Documents.{Document}
+use Rattle.documents.specs.MarksTold.{AreOthers, HasMarksBut, TellsMarks, mark_at}
+use Rattle.documents.specs.declared.mark_lists.MarkChange.{MarkChange}
+use Rattle.documents.specs.declared.mark_lists.MarkKey.{MarkKey}
+use Rattle.peers.specs.Commands.{Call, done, edits_text}
 use Rattle.peers.specs.World.{World, document_at, home}
 
--- commands that edit the text: marks go along with it, which isn't told
-abbrev pub edits_text : Command → Bool
-edits_text Insert = true
-edits_text Delete = true
-edits_text Replace = true
-edits_text EditUndo = true
-edits_text EditRedo = true
-edits_text command = false
+-- the marks that changes of the text of the document at a place don't take to where they are; none where there is no
+-- such document
+abbrev pub MarksTellAt : World → World → Option ℕ → List TextChange → List MarkChange → Type 0
+MarksTellAt old new None changes marks = marks ≡ []
+MarksTellAt old new (Some place) changes marks =
+    TellsMarks changes (document_at old.documents place) (document_at new.documents place) marks
 
--- words that are such a command
-abbrev pub edits_reading : Result Shape ShapeFault → Bool
-edits_reading (Err fault) = false
-edits_reading (Ok shape) = edits_text shape.command
+-- the same of a command of this first word, which names the widget if it is a widget's command
+abbrev pub MarksTellOf : World → World → List (List ℕ) → List TextChange → List MarkChange → Type 0
+MarksTellOf old new [] changes marks = marks ≡ []
+MarksTellOf old new (name ∷ words) changes marks = MarksTellAt old new (home name old.documents) changes marks
 
--- the names of the marks that moved in the document at a place, as the widget of a name knows them; nothing is told of
--- words that edit the text, nor where there is no such document
-abbrev pub MarksTellAt : World → World → List ℕ → List (List ℕ) → Option ℕ → List (List ℕ) → Type 0
-MarksTellAt old new name words None names = names ≡ []
-MarksTellAt old new name words (Some place) names =
-    MatchBool (edits_reading (reading words)) (names ≡ [])
-    (MarksTold name (document_at old.documents place) (document_at new.documents place) names)
-
--- the names of the marks that a command of this first word moved, which names the widget if it is a widget's command
-abbrev pub MarksTellOf : World → World → List (List ℕ) → List (List ℕ) → Type 0
-MarksTellOf old new [] names = names ≡ []
-MarksTellOf old new (name ∷ words) names = MarksTellAt old new name (name ∷ words) (home name old.documents) names
+-- A list has each mark that a command may displace: of one that edits the text all marks that there are, and of any
+-- other command those that it doesn't leave where they are.
+abbrev pub CoversMarks : Command → Document → Call → List MarkChange → Type 0
+CoversMarks command document call marks =
+    MatchBool (edits_text command) ((key : MarkKey) → AreOthers key marks → mark_at document key ≡ None)
+    (HasMarksBut marks document (done command document call).document)

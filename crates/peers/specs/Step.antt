@@ -14,7 +14,7 @@ use Rattle.command_effects.specs.Words.{is_among, is_same, literal}
 use Rattle.command_table.specs.Reading.{reading}
 use Rattle.command_table.specs.declared.shapes.Shape.{Shape}
 use Rattle.command_table.specs.declared.shapes.ShapeFault.{ShapeFault}
-use Rattle.documents.specs.Documents.{Document, Widget}
+use Rattle.documents.specs.Documents.{Document, Widget, widget_at}
 use Rattle.documents.specs.Kept.{is_window_name}
 use Rattle.documents.specs.Promise.{Change, Gives}
 use Rattle.documents.specs.Widgets.{bare_document, new_document, widget_named, without_widgets}
@@ -98,6 +98,12 @@ changed world place change =
       world = record world { documents = slice_set world.documents place change.document };
       edits = change.edits;
     }
+
+-- a command of the widget at a seat of the document at a place
+abbrev pub seat_step : World → ℕ → ℕ → List (List ℕ) → Outcome
+seat_step world place seat words =
+    let document = document_at world.documents place in
+    changed world place (command world.limits (all_windows world) document (widget_at document seat) words)
 
 abbrev pub on_found : World → ℕ → Document → List (List ℕ) → Option Widget → Outcome
 on_found world place document words None = refuses world (InvalidCommandName 0)

@@ -1,15 +1,12 @@
 -- What is told of a command: what it changed of the text that its widget shows, and of the tags there.
-use Rattle.std.specs.Prelude.{◌≡◌, ℕ, Bool, true, List, [], ◌∷◌, Option, None, Some, Result, Ok, Err, IfOk}
-use Rattle.std.specs.Bool.{MatchBool}
+use Rattle.std.specs.Prelude.{◌≡◌, ℕ, Bool, true, false, List, [], ◌∷◌, Option, None, Some, Result, Ok, Err, IfOk}
 use Rattle.undo_stack.specs.declared.actions.Action.{Action}
 use Rattle.command_effects.specs.declared.answers.Answer.{Answer}
 use Rattle.command_effects.specs.declared.answers.Answer.TheVariants.{Empty}
 use Rattle.command_effects.specs.declared.answers.Fault.{Fault}
-use Rattle.documents.specs.Documents.{Document, KeyedCell, Widget}
-use Rattle.documents.specs.MarksTold.{MarksTold}
+use Rattle.documents.specs.Documents.{Document, KeyedCell}
 use Rattle.documents.specs.Promise.{Change}
 use Rattle.documents.specs.Told.{TellsCells}
-use Rattle.documents.specs.Widgets.{widget_named}
 use Rattle.documents.specs.declared.told.EditTold.{EditTold}
 use Rattle.peers.specs.Step.{step}
 use Rattle.peers.specs.World.{World, document_at, home}
@@ -39,7 +36,7 @@ abbrev pub answer_of : Result Told Fault → Result Answer Fault
 answer_of (Ok told) = Ok told.answer
 answer_of (Err fault) = Err fault
 
--- what is told of a command by its answer alone, by what it changed of the text, and by the marks that it moved
+-- the report of a command by its answer alone, and by what it changed of the text
 abbrev pub answered : Result Answer Fault → Result Told Fault
 answered (Ok answer) = Ok (record { answer = answer; edit = no_edit; marks = [] })
 answered (Err fault) = Err fault
@@ -48,18 +45,12 @@ abbrev pub edited : Result EditTold Fault → Result Told Fault
 edited (Ok edit) = Ok (record { answer = Empty; edit = edit; marks = [] })
 edited (Err fault) = Err fault
 
-abbrev pub moved : Result (List (List ℕ)) Fault → Result Told Fault
-moved (Ok marks) = Ok (record { answer = Empty; edit = no_edit; marks = marks })
-moved (Err fault) = Err fault
+-- who follows the text gets a report of what a command of a widget made of its document, unless it is refused
+abbrev pub AreTold : Bool → Change → Document → Document → Result Told Fault → Type 0
+AreTold follows change old new result =
+    follows ≡ true → IfOk result (λ told. TellsCells change.edits old.cells new.cells told.edit)
 
--- what a command of a widget made of its document is told: the changes of the text and of its tags, and, of one that
--- doesn't edit the text, the names of the marks that it moved
-pub record TellsAll (edits : Bool) (change : Change) (old new : Document) (widget : Widget) (told : Told) : Type 0 where
-  pub text : TellsCells change.edits old.cells new.cells told.edit
-  pub marks : MatchBool edits (told.marks ≡ []) ((window : List ℕ) → widget_named window old ≡ Some widget
-      → MarksTold window old new told.marks)
-
--- who follows the text is told it, unless the command is refused
-abbrev pub AreTold : Bool → Bool → Change → Document → Document → Widget → Result Told Fault → Type 0
-AreTold follows edits change old new widget result =
-    follows ≡ true → IfOk result (TellsAll edits change old new widget)
+-- such a report has no marks, and of a command that doesn't edit the text no changes of it
+pub record IsPlain (edits : Bool) (told : Told) : Type 0 where
+  pub marks : told.marks ≡ []
+  pub still : edits ≡ false → told.edit.changes ≡ []

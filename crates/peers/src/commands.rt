@@ -1,10 +1,9 @@
-ghost use Rattle.std.specs.Prelude.{◌≡◌, ◌≢◌, ◌+◌, ◌<◌, ◌≤◌, ℕ, true, false, List, length, Ok, Err};
+ghost use Rattle.std.specs.Prelude.{◌≡◌, ◌≢◌, ◌+◌, ◌<◌, ◌≤◌, ℕ, true, false, List, length, Ok, Err, IfOk};
 ghost use Rattle.tcl_words.specs.Unread.{texts_of};
 ghost use Rattle.documents.specs.Documents.{widget_at};
 ghost use Rattle.documents.specs.Promise.{Does};
-ghost use Rattle.peers.specs.Commands.{done, command, is_frugal, is_told};
-ghost use Rattle.peers.specs.MarksTold.{edits_text};
-ghost use Rattle.peers.specs.Told.{answer_of, AreTold};
+ghost use Rattle.peers.specs.Commands.{done, command, edits_text, is_frugal, is_told};
+ghost use Rattle.peers.specs.Told.{answer_of, AreTold, IsPlain};
 ghost use Rattle.command_table.specs.Reading.{reading};
 ghost use Rattle.command_table.specs.declared.commands.Command.TheVariants.{PeerCreate};
 ghost use Rattle.command_effects.specs.declared.answers.Fault.TheVariants.{Memory};
@@ -20,7 +19,7 @@ use crate::tags::{
     tag_add, tag_lower, tag_names, tag_nextrange, tag_prevrange, tag_raise, tag_ranges, tag_remove,
 };
 use crate::texts::{get, insert};
-use crate::told::{Told, answered, edited, moved};
+use crate::told::{Told, answered, edited};
 use crate::widgets::peer_names;
 use command_effects::{Answer, Fault};
 use command_table::{Command, Shape};
@@ -37,7 +36,7 @@ struct Call<'a> {
     arguments: &'a [String],
 }
 
-/// A command of a widget, as it is called, that neither edits the text or its tags nor moves marks, but `peer create`.
+/// A command of a widget, as it is called, that edits neither the text nor its tags, but `peer create`.
 fn answer<S: TextStore>(
     document: &mut Document<S>,
     command: Command,
@@ -70,6 +69,8 @@ fn answer<S: TextStore>(
         Command::Get => get(document, seat, position, arguments),
         Command::Index => index(document, seat, position, arguments),
         Command::Compare => compare(document, seat, position, arguments),
+        Command::MarkSet => mark_set(document, &caller, position, arguments),
+        Command::MarkUnset => document.unset_marks(arguments),
         Command::MarkGravity => mark_gravity(document, seat, position, arguments),
         Command::MarkNames => mark_names(document),
         Command::MarkNext => mark_next(document, seat, position, arguments),
@@ -93,7 +94,7 @@ fn answer<S: TextStore>(
         Command::Insert | Command::Delete | Command::Replace => unreachable!(),
         Command::EditUndo | Command::EditRedo => unreachable!(),
         Command::TagAdd | Command::TagRemove | Command::TagDelete => unreachable!(),
-        Command::MarkSet | Command::MarkUnset | Command::PeerCreate => unreachable!(),
+        Command::PeerCreate => unreachable!(),
     }
 }
 
@@ -117,15 +118,15 @@ fn carry_out<S: TextStore>(
           position = call.entry.position;
           arguments = texts_of call.entry.arguments.now;
         })) }
-    ensures tells { (windows : List (List ℕ)) → let widget = widget_at document.old call.entry.caller.seat in
-        AreTold call.entry.caller.follows (edits_text command) (done command document.old (record {
-          limits = call.entry.caller.limits.now;
-          windows = windows;
-          widget = widget;
-          switches = texts_of call.entry.switches.now;
-          position = call.entry.position;
-          arguments = texts_of call.entry.arguments.now;
-        })) document.old document.new widget result }
+    ensures tells { (windows : List (List ℕ)) → AreTold call.entry.caller.follows (done command document.old (record {
+      limits = call.entry.caller.limits.now;
+      windows = windows;
+      widget = widget_at document.old call.entry.caller.seat;
+      switches = texts_of call.entry.switches.now;
+      position = call.entry.position;
+      arguments = texts_of call.entry.arguments.now;
+    })) document.old document.new result }
+    ensures plain { IfOk result (IsPlain (edits_text command)) }
     ensures frugal { is_frugal command ≡ true → result ≢ Err Memory }
 {
     let Call {
@@ -145,8 +146,6 @@ fn carry_out<S: TextStore>(
         Command::TagAdd => edited(alloc, tag_add(document, by, position, arguments)),
         Command::TagRemove => edited(alloc, tag_remove(document, by, position, arguments)),
         Command::TagDelete => edited(alloc, document.delete_tags(by, arguments)),
-        Command::MarkSet => moved(alloc, mark_set(document, by, position, arguments)),
-        Command::MarkUnset => moved(alloc, document.unset_marks(by, arguments)),
         _ => answered(alloc, answer(document, command, call)),
     }
 }
@@ -168,10 +167,10 @@ pub fn command<S: TextStore>(
     ensures does { (windows : List (List ℕ)) → Does caller.entry.limits.now document.old document.new
         (answer_of result) (command caller.entry.limits.now windows document.old
         (widget_at document.old caller.entry.seat) (texts_of words.now)) }
-    ensures tells { (windows : List (List ℕ)) → let widget = widget_at document.old caller.entry.seat in
-        AreTold caller.entry.follows (edits_text shape.command)
-        (command caller.entry.limits.now windows document.old widget (texts_of words.now))
-        document.old document.new widget result }
+    ensures tells { (windows : List (List ℕ)) → AreTold caller.entry.follows
+        (command caller.entry.limits.now windows document.old (widget_at document.old caller.entry.seat)
+        (texts_of words.now)) document.old document.new result }
+    ensures plain { IfOk result (IsPlain (edits_text shape.command)) }
     ensures frugal { is_frugal shape.command ≡ true → result ≢ Err Memory }
 {
     let call = Call {

@@ -20,6 +20,9 @@ mod words;
 mod world;
 
 pub use command_effects::{Answer, Fault};
-pub use documents::{ChangeList, EditTold, Key, MovedMarks, Spot, TagChange, TagList, TextChange};
+pub use documents::{
+    ChangeList, EditTold, Key, MarkChange, MarkKey, MarkKind, MarkList, Spot, TagChange, TagList,
+    TextChange,
+};
 pub use told::Told;
 pub use world::World;

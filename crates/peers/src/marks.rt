@@ -5,9 +5,12 @@ ghost use Rattle.documents.specs.Documents.{widget_at};
 ghost use Rattle.documents.specs.Views.{shown};
 ghost use Rattle.command_effects.specs.Faults.{with_value};
 ghost use Rattle.documents.specs.Promise.{Gives, Does};
-ghost use Rattle.documents.specs.Told.{reply_of};
 ghost use Rattle.documents.specs.Marks.{place_named};
-ghost use Rattle.documents.specs.MarksTold.{AreMarksTold};
+ghost use Rattle.documents.specs.MarksTold.{mark_key, own_keys, watched, AreWatched};
+ghost use Rattle.documents.specs.WellFormed.{IsWellFormedDocument};
+ghost use Rattle.peers.specs.Commands.{is_frugal};
+ghost use Rattle.peers.specs.MarksTold.{CoversMarks};
+ghost use Rattle.std.specs.Prelude.{ℕ, List, true, is_ok, flat_map, map, take, IfOk};
 ghost use Rattle.peers.specs.Marks.{set_at, mark_set, gravity_asked, gravity_given, gravity_words};
 ghost use Rattle.peers.specs.Marks.{mark_gravity, mark_names_of, mark_answer, origin_at, next_from, next_at, mark_next};
 ghost use Rattle.peers.specs.Marks.{previous_from, previous_at, mark_previous};
@@ -16,8 +19,10 @@ ghost use Rattle.documents.specs.Names.{mark_place};
 ghost use Rattle.peers.specs.Marks.{origin_marked};
 
 use command_effects::{Answer, Fault, one, one_or_two, read_gravity, two};
-use documents::{Caller, Document, MovedMarks};
+use command_table::Command;
+use documents::{Caller, Document, MarkList};
 use mark_table::{Origin, WidgetMark};
+use std::alloc::AllocError;
 use text_model::{Gravity, Limits, Place, TextStore};
 
 /// Sets the mark of a name to a place of the view.
@@ -46,26 +51,22 @@ fn set_at<S: TextStore>(
     }
 }
 
-/// `W mark set M I` (text(n), "mark set"). The arguments stand from a position on. Which mark that moves.
+/// `W mark set M I` (text(n), "mark set"). The arguments stand from a position on.
 pub fn mark_set<S: TextStore>(
     document: &mut Document<S>,
     caller: &Caller<'_>,
     position: usize,
     arguments: &[String],
-) -> Result<MovedMarks, Fault>
+) -> Result<Answer, Fault>
     requires shown { caller.now.seat < length document.old.widgets }
     requires near { position + 1 ≤ usize.MAX }
-    ensures does { Does caller.now.limits.now document.old document.new (reply_of result)
+    ensures { Does caller.now.limits.now document.old document.new result
         (mark_set caller.now.limits.now document.old (widget_at document.old caller.now.seat) position
         (texts_of arguments.now)) }
-    ensures told { AreMarksTold caller.now.follows document.old document.new
-        (widget_at document.old caller.now.seat) result }
 {
     let (name, word) = two(arguments)?;
     let place = document.place_at(caller.seat, position + 1, word)?;
-    let told = document.told_mark_set(caller, name, place)?;
-    set_at(document, caller.limits, caller.seat, name, place)?;
-    Ok(told)
+    set_at(document, caller.limits, caller.seat, name, place)
 }
 
 /// The gravity of the mark that stands at a place, if there is one.
@@ -287,5 +288,71 @@ pub fn mark_previous<S: TextStore>(
     match one(arguments) {
         Err(fault) => Err(fault),
         Ok(word) => previous_at(document, seat, position, word),
+    }
+}
+
+/// Returns the marks that a command of a widget may displace, as they are before it: by what it does, or by the names
+/// among its arguments.
+pub fn marks_before<S: TextStore>(
+    document: &Document<S>,
+    seat: usize,
+    command: Command,
+    arguments: &[String],
+) -> Result<MarkList, AllocError>
+    requires { seat < length document.now.widgets }
+    ensures watched { (limits : LimitTable) → IsWellFormedDocument limits document.now →
+        IfOk result (λ marks. AreWatched document.now marks) }
+    ensures covers { (limits : LimitTable) (windows switches : List (List ℕ)) (position : ℕ) →
+        IfOk result (λ marks. CoversMarks command document.now (record {
+          limits = limits;
+          windows = windows;
+          widget = widget_at document.now seat;
+          switches = switches;
+          position = position;
+          arguments = texts_of arguments.now;
+        }) marks) }
+    ensures frugal { is_frugal command ≡ true → is_ok result ≡ true }
+{
+    match command {
+        Command::Insert => document.list_marks(),
+        Command::Delete => document.list_marks(),
+        Command::Replace => document.list_marks(),
+        Command::EditUndo => document.list_marks(),
+        Command::EditRedo => document.list_marks(),
+        Command::MarkSet => first_mark(document, seat, arguments),
+        Command::MarkGravity => first_mark(document, seat, arguments),
+        Command::MarkUnset => document.list_shared_marks(arguments),
+        Command::PeerCreate => new_marks(document, arguments),
+        _ => Ok(MarkList::new(document.allocator())),
+    }
+}
+
+/// Returns the mark that the first of some arguments names.
+fn first_mark<S: TextStore>(
+    document: &Document<S>,
+    seat: usize,
+    arguments: &[String],
+) -> Result<MarkList, AllocError>
+    requires { seat < length document.now.widgets }
+    ensures { IfOk result (λ marks. marks ≡ map (watched document.now)
+        (map (mark_key (widget_at document.now seat)) (take 1 (texts_of arguments.now)))) }
+{
+    match arguments {
+        [name, ..] => document.list_mark(seat, name.as_str()),
+        [] => Ok(MarkList::new(document.allocator())),
+    }
+}
+
+/// Returns the marks that a widget of the name that is the first of some arguments has.
+fn new_marks<S: TextStore>(
+    document: &Document<S>,
+    arguments: &[String],
+) -> Result<MarkList, AllocError>
+    ensures { IfOk result (λ marks. marks ≡ map (watched document.now)
+        (flat_map own_keys (take 1 (texts_of arguments.now)))) }
+{
+    match arguments {
+        [name, ..] => document.list_own_marks(name.as_str()),
+        [] => Ok(MarkList::new(document.allocator())),
     }
 }

@@ -1,4 +1,4 @@
-ghost use Rattle.std.specs.Prelude.{◌≡◌, ◌≢◌, ◌<◌, Some, Ok, [], false, true, nat_le, length, chars, ◌+◌, ◌≤◌};
+ghost use Rattle.std.specs.Prelude.{◌≡◌, ◌≢◌, ◌<◌, Some, Ok, Err, [], false, true, nat_le, length, chars, ◌+◌, ◌≤◌};
 ghost use Rattle.std.specs.Prelude.{option_map, IfOk};
 ghost use Rattle.text_model.specs.Lines.{lines};
 ghost use Rattle.tcl_words.specs.Unread.{texts_of};
@@ -9,19 +9,20 @@ ghost use Rattle.documents.specs.Documents.{characters, widget_at};
 ghost use Rattle.documents.specs.Kept.{is_window_name};
 ghost use Rattle.peers.specs.History.{can_redo_by, can_undo_by};
 ghost use Rattle.peers.specs.Step.{Makes, changed, create_named, create, create_shaped, destroy, destroy_shaped};
-ghost use Rattle.peers.specs.Step.{on_home, on_widget, step, are_frugal};
-ghost use Rattle.peers.specs.Commands.{is_frugal, is_frugal_reading};
+ghost use Rattle.peers.specs.Step.{on_home, on_widget, seat_step, step, are_frugal};
+ghost use Rattle.peers.specs.Commands.{edits_text, is_frugal, is_frugal_reading};
 ghost use Rattle.peers.specs.Widgets.{peer_create, peer_with};
 ghost use Rattle.peers.specs.WellFormed.{IsWellFormed};
 ghost use Rattle.peers.specs.World.{all_windows, document_at, home};
 ghost use Rattle.peers.specs.MarksTold.{MarksTellAt, MarksTellOf};
-ghost use Rattle.peers.specs.Told.{answer_of, TellsAt, TellsOf};
+ghost use Rattle.peers.specs.Told.{answer_of, IsPlain, TellsAt, TellsOf};
 ghost use Rattle.documents.specs.Options.{AreLines};
 
 use crate::commands::command;
 use crate::document_list::Documents;
+use crate::marks::marks_before;
 use crate::options::settings_given;
-use crate::told::{Told, answered};
+use crate::told::{Follows, Told, answered};
 use crate::widgets::peer_settings;
 use crate::words::is_window_name;
 use command_effects::{Answer, Fault, Settings, first, is_word};
@@ -220,31 +221,28 @@ impl<S: TextStore> World<S> {
         }
     }
 
-    /// A command of the widget of a name, which shows the document at a place, of all its words, which have this shape.
-    /// Where the caller follows, it reports what it changed.
-    fn on_document(
+    /// A command of the widget at a seat of the document at a place, of all its words, which have this shape. Where the
+    /// caller follows the text, it reports what it changed of that.
+    fn on_seat(
         &mut self,
         place: usize,
-        name: &str,
+        seat: usize,
         shape: Shape,
         words: &[String],
         follows: bool,
     ) -> Result<Told, Fault>
-        requires home { home (chars name.now) self.old.documents ≡ Some place }
+        requires place { place < length self.old.documents }
+        requires shown { seat < length (document_at self.old.documents place).widgets }
         requires shape { reading (texts_of words.now) ≡ Ok shape }
         requires within { shape.arguments + shape.count ≤ length words.now }
         requires ordered { shape.switches ≤ shape.arguments }
         ensures makes { Makes self.old self.new (answer_of result)
-            (on_home self.old (chars name.now) (texts_of words.now) (Some place)) }
+            (seat_step self.old place seat (texts_of words.now)) }
         ensures tells { follows ≡ true → IfOk result (λ told. TellsAt self.old self.new (Some place)
-            (on_home self.old (chars name.now) (texts_of words.now) (Some place)).edits told.edit) }
-        ensures marks { follows ≡ true → IfOk result (λ told.
-            MarksTellAt self.old self.new (chars name.now) (texts_of words.now) (Some place) told.marks) }
+            (seat_step self.old place seat (texts_of words.now)).edits told.edit) }
+        ensures plain { IfOk result (IsPlain (edits_text shape.command)) }
         ensures frugal { is_frugal shape.command ≡ true → result ≢ Err Fault.Memory }
     {
-        let Some(seat) = self.documents.list[place].find_widget(name) else {
-            unreachable!()
-        };
         match shape.command {
             Command::PeerCreate => {
                 let arguments = &words[shape.arguments..];
@@ -262,16 +260,82 @@ impl<S: TextStore> World<S> {
         }
     }
 
-    /// A command of the widget of a name, of all its words. Where the caller follows, it reports what it changed.
-    fn on_widget(&mut self, name: &str, words: &[String], follows: bool) -> Result<Told, Fault>
+    /// The same command. It reports what it changed, with the marks that it displaced.
+    fn on_seat_with_marks(
+        &mut self,
+        place: usize,
+        seat: usize,
+        shape: Shape,
+        words: &[String],
+    ) -> Result<Told, Fault>
+        requires place { place < length self.old.documents }
+        requires shown { seat < length (document_at self.old.documents place).widgets }
+        requires shape { reading (texts_of words.now) ≡ Ok shape }
+        requires within { shape.arguments + shape.count ≤ length words.now }
+        requires ordered { shape.switches ≤ shape.arguments }
+        ensures makes { Makes self.old self.new (answer_of result)
+            (seat_step self.old place seat (texts_of words.now)) }
+        ensures tells { IfOk result (λ told. TellsAt self.old self.new (Some place)
+            (seat_step self.old place seat (texts_of words.now)).edits told.edit) }
+        ensures marks { IfOk result (λ told.
+            MarksTellAt self.old self.new (Some place) told.edit.changes told.marks) }
+        ensures frugal { is_frugal shape.command ≡ true → result ≢ Err Fault.Memory }
+    {
+        let arguments = &words[shape.arguments..];
+        let mut marks = marks_before(&self.documents.list[place], seat, shape.command, arguments)?;
+        let told = self.on_seat(place, seat, shape, words, true)?;
+        self.documents.list[place].settle_marks(&mut marks, &told.edit.changes);
+        Ok(Told {
+            answer: told.answer,
+            edit: told.edit,
+            marks,
+        })
+    }
+
+    /// A command of the widget of a name, which shows the document at a place, of all its words, which have this shape.
+    /// It reports what it changed of what the caller follows.
+    fn on_document(
+        &mut self,
+        place: usize,
+        name: &str,
+        shape: Shape,
+        words: &[String],
+        follows: Follows,
+    ) -> Result<Told, Fault>
+        requires home { home (chars name.now) self.old.documents ≡ Some place }
+        requires shape { reading (texts_of words.now) ≡ Ok shape }
+        requires within { shape.arguments + shape.count ≤ length words.now }
+        requires ordered { shape.switches ≤ shape.arguments }
+        ensures makes { Makes self.old self.new (answer_of result)
+            (on_home self.old (chars name.now) (texts_of words.now) (Some place)) }
+        ensures tells { follows.text ≡ true → IfOk result (λ told. TellsAt self.old self.new (Some place)
+            (on_home self.old (chars name.now) (texts_of words.now) (Some place)).edits told.edit) }
+        ensures marks { follows.marks ≡ true → IfOk result (λ told.
+            MarksTellAt self.old self.new (Some place) told.edit.changes told.marks) }
+        ensures unasked { follows.marks ≡ false → IfOk result (λ told. told.marks ≡ []) }
+        ensures frugal { is_frugal shape.command ≡ true → result ≢ Err Fault.Memory }
+    {
+        let Some(seat) = self.documents.list[place].find_widget(name) else {
+            unreachable!()
+        };
+        if follows.marks {
+            self.on_seat_with_marks(place, seat, shape, words)
+        } else {
+            self.on_seat(place, seat, shape, words, follows.text)
+        }
+    }
+
+    /// A command of the widget of a name, of all its words. It reports what it changed of what the caller follows.
+    fn on_widget(&mut self, name: &str, words: &[String], follows: Follows) -> Result<Told, Fault>
         requires { 0 < length words.now }
         ensures makes { Makes self.old self.new (answer_of result)
             (on_widget self.old (chars name.now) (texts_of words.now)) }
-        ensures tells { follows ≡ true → IfOk result (λ told.
+        ensures tells { follows.text ≡ true → IfOk result (λ told.
             TellsAt self.old self.new (home (chars name.now) self.old.documents)
             (on_widget self.old (chars name.now) (texts_of words.now)).edits told.edit) }
-        ensures marks { follows ≡ true → IfOk result (λ told. MarksTellAt self.old self.new (chars name.now)
-            (texts_of words.now) (home (chars name.now) self.old.documents) told.marks) }
+        ensures marks { follows.marks ≡ true → IfOk result (λ told. MarksTellAt self.old self.new
+            (home (chars name.now) self.old.documents) told.edit.changes told.marks) }
+        ensures unasked { follows.marks ≡ false → IfOk result (λ told. told.marks ≡ []) }
         ensures frugal { is_frugal_reading (reading (texts_of words.now)) ≡ true → result ≢ Err Fault.Memory }
     {
         let Some(place) = self.documents.windows.home(name) else {
@@ -308,14 +372,15 @@ impl<S: TextStore> World<S> {
         Some(self.document(name)?.can_redo())
     }
 
-    /// Carries out a command of one word or more. Where the caller follows, it reports what it changed.
-    fn carry_out(&mut self, words: &[String], follows: bool) -> Result<Told, Fault>
+    /// Carries out a command of one word or more. It reports what it changed of what the caller follows.
+    fn carry_out(&mut self, words: &[String], follows: Follows) -> Result<Told, Fault>
         requires { 0 < length words.now }
         ensures makes { Makes self.old self.new (answer_of result) (step self.old (texts_of words.now)) }
-        ensures tells { follows ≡ true →
+        ensures tells { follows.text ≡ true →
             IfOk result (λ told. TellsOf self.old self.new (texts_of words.now) told.edit) }
-        ensures marks { follows ≡ true →
-            IfOk result (λ told. MarksTellOf self.old self.new (texts_of words.now) told.marks) }
+        ensures marks { follows.marks ≡ true → IfOk result (λ told.
+            MarksTellOf self.old self.new (texts_of words.now) told.edit.changes told.marks) }
+        ensures unasked { follows.marks ≡ false → IfOk result (λ told. told.marks ≡ []) }
         ensures frugal { are_frugal (texts_of words.now) ≡ true → result ≢ Err Fault.Memory }
     {
         let alloc = self.documents.alloc;
@@ -331,17 +396,21 @@ impl<S: TextStore> World<S> {
     }
 
     /// Carries out a command as `call` does, and reports what it changed of the text that its widget shows and of the
-    /// tags there, if its first word names one, and, unless it edits the text, which marks it moved. The report is
-    /// allocated before anything changes, so where an allocation fails the world is as it was.
-    pub fn call_told(&mut self, words: &[String]) -> Result<Told, Fault>
+    /// tags there, if its first word names one. Where marks are asked for, it also reports each mark that these changes
+    /// alone don't take to where it is, that is new or gone, or has another gravity. The report is allocated before
+    /// anything changes, so where an allocation fails the world is as it was.
+    pub fn call_told(&mut self, words: &[String], marks: bool) -> Result<Told, Fault>
         requires { 0 < length words.now }
         ensures makes { Makes self.old self.new (answer_of result)
             (step self.old (texts_of words.now)) }
         ensures tells { IfOk result (λ told. TellsOf self.old self.new (texts_of words.now) told.edit) }
-        ensures marks { IfOk result (λ told. MarksTellOf self.old self.new (texts_of words.now) told.marks) }
+        ensures marks { marks ≡ true → IfOk result (λ told.
+            MarksTellOf self.old self.new (texts_of words.now) told.edit.changes told.marks) }
+        ensures unasked { marks ≡ false → IfOk result (λ told. told.marks ≡ []) }
         ensures frugal { are_frugal (texts_of words.now) ≡ true → result ≢ Err Fault.Memory }
     {
-        self.carry_out(words, true)
+        let follows = Follows { text: true, marks };
+        self.carry_out(words, follows)
     }
 
     /// Carries out a command of one word or more. A fault leaves the world as it was.
@@ -350,6 +419,10 @@ impl<S: TextStore> World<S> {
         ensures makes { Makes self.old self.new result (step self.old (texts_of words.now)) }
         ensures frugal { are_frugal (texts_of words.now) ≡ true → result ≢ Err Fault.Memory }
     {
-        Ok(self.carry_out(words, false)?.answer)
+        let follows = Follows {
+            text: false,
+            marks: false,
+        };
+        Ok(self.carry_out(words, follows)?.answer)
     }
 }

@@ -6,13 +6,17 @@ ghost use Rattle.text_model.specs.LimitTable.{most_chars, most_tags, most_marks,
 ghost use Rattle.peers.specs.History.{can_redo_by, can_undo_by};
 ghost use Rattle.handles.specs.Calls.{Makes, Calls, Feeds, Takes, Tells, finished};
 ghost use Rattle.handles.specs.Codes.{make_code, move_code, call_code, feed_code, flag_code, turn_code, told_code};
+ghost use Rattle.handles.specs.Codes.{gravity_code, offset_code};
 ghost use Rattle.handles.specs.Handles.{reported, state, status_of, said_of};
 ghost use Rattle.handles.specs.Room.{over};
 ghost use Rattle.handles.specs.Told.{told_of, mark_told, place_told, spot_told, text_told, word_given, words_of};
 ghost use Rattle.handles.specs.Told.{span_told, tag_told, widget_told, CallsTold, MakesReport, MovesReport};
-ghost use Rattle.handles.specs.Told.{TakesTold};
+ghost use Rattle.handles.specs.Told.{mark_place_told, owner_told, TakesTold};
 
-use handles::ends::{CallEnd, FeedEnd, MakeEnd, MoveEnd, TurnEnd, Way, code_of_flag, code_of_told};
+use handles::ends::{
+    CallEnd, FeedEnd, MakeEnd, MoveEnd, TurnEnd, Way, code_of_flag, code_of_gravity, code_of_told,
+    offset_of_place,
+};
 use handles::{Handle, ReportHandle};
 use std::alloc::Global;
 use text_model::Limits;
@@ -61,7 +65,7 @@ pub extern "C" fn tktext_call(
     ensures { (ended : CallEnd) × (result ≡ call_code ended)
         × Calls (state handle.old) lengths.now bytes.now (state handle.new) ended }
 {
-    handle.call(alloc, false, bytes, lengths).code()
+    handle.call(alloc, false, false, bytes, lengths).code()
 }
 
 /// Copies what was said last to the front of the room, as far as it goes, and gives the length of all.
@@ -74,18 +78,20 @@ pub extern "C" fn tktext_said(alloc: Global, handle: &mut Handle, room: &mut [u8
     handle.copy_said(alloc, room)
 }
 
-/// Carries out a command as `tktext_call` does, and keeps what it changed of the text that its widget shows.
+/// Carries out a command as `tktext_call` does, and keeps a report of what it changed of the text that its widget
+/// shows, with its marks where `marks` asks for them.
 #[unsafe(no_mangle)]
 pub extern "C" fn tktext_call_told(
     alloc: Global,
     handle: &mut Handle,
+    marks: bool,
     bytes: &[u8],
     lengths: &[usize],
 ) -> i32
     ensures { (ended : CallEnd) × (result ≡ call_code ended)
-        × CallsTold (state handle.old) lengths.now bytes.now (state handle.new) ended }
+        × CallsTold marks (state handle.old) lengths.now bytes.now (state handle.new) ended }
 {
-    handle.call(alloc, true, bytes, lengths).code()
+    handle.call(alloc, true, marks, bytes, lengths).code()
 }
 
 /// Copies a word of the command that was given last to the front of the room, as far as it goes, and gives the length
@@ -311,7 +317,7 @@ pub extern "C" fn tktext_told_tag_on(alloc: Global, report: &mut ReportHandle, i
     code_of_flag(report.tag_span(alloc, index).2)
 }
 
-/// Returns the number of marks of a report: those that `mark set` or `mark unset` moved.
+/// Returns the number of marks of a report: those that its changes of the text alone don't take to where they are.
 #[unsafe(no_mangle)]
 pub extern "C" fn tktext_told_marks(alloc: Global, report: &mut ReportHandle) -> usize
     ensures count { result ≡ length (told_of (reported report.old)).marks }
@@ -333,6 +339,51 @@ pub extern "C" fn tktext_told_mark(
     ensures unchanged { reported report.new ≡ reported report.old }
 {
     report.copy_mark(alloc, index, room)
+}
+
+/// Copies the name of the widget whose `insert` or `current` the mark is in the same way; nothing for any other mark.
+#[unsafe(no_mangle)]
+pub extern "C" fn tktext_told_mark_widget(
+    alloc: Global,
+    report: &mut ReportHandle,
+    index: usize,
+    room: &mut [u8],
+) -> usize
+    ensures length { result ≡ min (length (owner_told (told_of (reported report.old)).marks index)) usize.MAX }
+    ensures copied { room.new ≡ over (owner_told (told_of (reported report.old)).marks index) room.old }
+    ensures unchanged { reported report.new ≡ reported report.old }
+{
+    report.copy_mark_widget(alloc, index, room)
+}
+
+/// Returns the offset of a mark, in characters, before the command (0) or after it (1); `usize::MAX` if the mark isn't
+/// there, or there is no such mark.
+#[unsafe(no_mangle)]
+pub extern "C" fn tktext_told_mark_at(
+    alloc: Global,
+    report: &mut ReportHandle,
+    index: usize,
+    end: usize,
+) -> usize
+    ensures offset { result ≡ offset_code (mark_place_told (told_of (reported report.old)).marks index end) }
+    ensures unchanged { reported report.new ≡ reported report.old }
+{
+    offset_of_place(report.mark_place(alloc, index, end))
+}
+
+/// Returns the gravity of a mark there: 0 for right, 1 for left, and -1 if the mark isn't there, or there is no such
+/// mark.
+#[unsafe(no_mangle)]
+pub extern "C" fn tktext_told_mark_gravity(
+    alloc: Global,
+    report: &mut ReportHandle,
+    index: usize,
+    end: usize,
+) -> i32
+    ensures gravity { result ≡ gravity_code (mark_place_told (told_of (reported report.old)).marks index end) }
+    ensures unchanged { reported report.new ≡ reported report.old }
+{
+    code_of_gravity(report.mark_place(alloc, index, end))
 }
 
 /// Whether `edit undo` would find something to undo in the text that the widget of a name shows: 1 or 0, and -1 where
@@ -378,16 +429,17 @@ pub extern "C" fn tktext_finish(alloc: Global, handle: &mut Handle)
 pub extern "C" fn tktext_next(alloc: Global, handle: &mut Handle) -> i32
     ensures { (ended : TurnEnd) × (result ≡ turn_code ended) × Takes (state handle.old) (state handle.new) ended }
 {
-    handle.take_turn(alloc, false).code()
+    handle.take_turn(alloc, false, false).code()
 }
 
-/// The same, and keeps what it changed of the text that the command's widget shows.
+/// The same, and keeps a report of what it changed of the text that the command's widget shows, with its marks where
+/// `marks` asks for them.
 #[unsafe(no_mangle)]
-pub extern "C" fn tktext_next_told(alloc: Global, handle: &mut Handle) -> i32
+pub extern "C" fn tktext_next_told(alloc: Global, handle: &mut Handle, marks: bool) -> i32
     ensures { (ended : TurnEnd) × (result ≡ turn_code ended)
-        × TakesTold (state handle.old) (state handle.new) ended }
+        × TakesTold marks (state handle.old) (state handle.new) ended }
 {
-    handle.take_turn(alloc, true).code()
+    handle.take_turn(alloc, true, marks).code()
 }
 
 /// The exit status of the script so far; 255 where the handle is empty.

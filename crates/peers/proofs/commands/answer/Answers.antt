@@ -27,3 +27,7 @@ returns-in-EditReset-clause-does g c = λ windows.
 pub returns-in-EditSeparator-clause-does : goal.returns-in-EditSeparator-clause-does
 returns-in-EditSeparator-clause-does g c = λ windows.
     rw c.in-EditSeparator.is (c.edit_separator.ensures c.args.call.caller.limits.now)
+
+pub returns-in-MarkUnset-clause-does : goal.returns-in-MarkUnset-clause-does
+returns-in-MarkUnset-clause-does g c = λ windows.
+    rw c.in-MarkUnset.is (c.unset_marks.ensures c.args.call.caller.limits.now)

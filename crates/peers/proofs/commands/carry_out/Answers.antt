@@ -1,7 +1,8 @@
-use Rattle.peers.proofs.Common.{[], refl, subst, sym, Err, Memory, TagAdd, TagDelete, TagRemove, MarkSet, MarkUnset}
-use Rattle.peers.proofs.Common.{texts_of, widget_at, ◌≢◌}
-use Rattle.peers.proofs.ToldLaws.{answered-memory, does-answered, does-edited, does-moved, quiet-else, told-marks}
-use Rattle.peers.proofs.ToldLaws.{told-quiet, told-tags, told-text}
+use Rattle.peers.proofs.Common.{subst, sym, IfOk, Err, Memory, texts_of, widget_at, edits_text, IsPlain, ◌≢◌, done}
+use Rattle.peers.proofs.Common.{Insert, Delete, Replace, EditUndo, EditRedo, TagAdd, TagRemove, TagDelete}
+use Rattle.peers.proofs.DoneLaws.{calling}
+use Rattle.peers.proofs.ToldLaws.{answered-memory, does-answered, does-edited, plain-answered, plain-tags, plain-text}
+use Rattle.peers.proofs.ToldLaws.{quiet-else, told-edited, told-quiet}
 use Rattle.peers.proofs.commands.carry_out.Goals as goal
 
 pub returns-in-Insert-clause-does : goal.returns-in-Insert-clause-does
@@ -10,123 +11,132 @@ returns-in-Insert-clause-does g c = λ windows.
 
 pub returns-in-Insert-clause-tells : goal.returns-in-Insert-clause-tells
 returns-in-Insert-clause-tells g c = λ windows.
-    let call = c.args.call in let widget = widget_at c.args.document.now call.caller.seat in
-    rw (c.edited.ensures, c.in-Insert.is) (told-text _ _ _ call.caller.follows widget c.insert.result
-    c.insert.ensures.told)
+    let call = c.args.call in let document = c.args.document.now in
+    rw (c.edited.ensures, c.in-Insert.is) (told-edited (done Insert document (calling call.caller.limits.now windows
+    (widget_at document call.caller.seat) (texts_of call.switches.now) call.position (texts_of call.arguments.now)))
+    document c.insert.new.document call.caller.follows c.insert.result c.insert.ensures.told)
+
+pub returns-in-Insert-clause-plain : goal.returns-in-Insert-clause-plain
+returns-in-Insert-clause-plain g c =
+    rw (c.edited.ensures, c.in-Insert.is) (plain-text c.insert.result)
 
 pub returns-in-Delete-clause-does : goal.returns-in-Delete-clause-does
 returns-in-Delete-clause-does g c = λ windows.
-    does-edited c.delete.result c.edited-in-Delete.result c.edited-in-Delete.ensures (rw c.in-Delete.is
-    (c.delete.ensures.does c.args.call.caller.limits.now))
+    does-edited c.delete.result c.edited-in-Delete.result c.edited-in-Delete.ensures
+    (rw c.in-Delete.is (c.delete.ensures.does c.args.call.caller.limits.now))
 
 pub returns-in-Delete-clause-tells : goal.returns-in-Delete-clause-tells
 returns-in-Delete-clause-tells g c = λ windows.
-    let call = c.args.call in let widget = widget_at c.args.document.now call.caller.seat in
-    rw (c.edited-in-Delete.ensures, c.in-Delete.is) (told-text _ _ _ call.caller.follows widget c.delete.result
-    c.delete.ensures.told)
+    let call = c.args.call in let document = c.args.document.now in
+    rw (c.edited-in-Delete.ensures, c.in-Delete.is) (told-edited (done Delete document (calling call.caller.limits.now windows
+    (widget_at document call.caller.seat) (texts_of call.switches.now) call.position (texts_of call.arguments.now)))
+    document c.delete.new.document call.caller.follows c.delete.result c.delete.ensures.told)
+
+pub returns-in-Delete-clause-plain : goal.returns-in-Delete-clause-plain
+returns-in-Delete-clause-plain g c =
+    rw (c.edited-in-Delete.ensures, c.in-Delete.is) (plain-text c.delete.result)
 
 pub returns-in-Replace-clause-does : goal.returns-in-Replace-clause-does
 returns-in-Replace-clause-does g c = λ windows.
-    does-edited c.replace.result c.edited-in-Replace.result c.edited-in-Replace.ensures (rw c.in-Replace.is
-    (c.replace.ensures.does))
+    does-edited c.replace.result c.edited-in-Replace.result c.edited-in-Replace.ensures
+    (rw c.in-Replace.is (c.replace.ensures.does))
 
 pub returns-in-Replace-clause-tells : goal.returns-in-Replace-clause-tells
 returns-in-Replace-clause-tells g c = λ windows.
-    let call = c.args.call in let widget = widget_at c.args.document.now call.caller.seat in
-    rw (c.edited-in-Replace.ensures, c.in-Replace.is) (told-text _ _ _ call.caller.follows widget c.replace.result
-    c.replace.ensures.told)
+    let call = c.args.call in let document = c.args.document.now in
+    rw (c.edited-in-Replace.ensures, c.in-Replace.is) (told-edited (done Replace document (calling call.caller.limits.now windows
+    (widget_at document call.caller.seat) (texts_of call.switches.now) call.position (texts_of call.arguments.now)))
+    document c.replace.new.document call.caller.follows c.replace.result c.replace.ensures.told)
+
+pub returns-in-Replace-clause-plain : goal.returns-in-Replace-clause-plain
+returns-in-Replace-clause-plain g c =
+    rw (c.edited-in-Replace.ensures, c.in-Replace.is) (plain-text c.replace.result)
 
 pub returns-in-EditUndo-clause-does : goal.returns-in-EditUndo-clause-does
 returns-in-EditUndo-clause-does g c = λ windows.
-    does-edited c.edit_undo.result c.edited-in-EditUndo.result c.edited-in-EditUndo.ensures (rw c.in-EditUndo.is
-    (c.edit_undo.ensures.does))
+    does-edited c.edit_undo.result c.edited-in-EditUndo.result c.edited-in-EditUndo.ensures
+    (rw c.in-EditUndo.is (c.edit_undo.ensures.does))
 
 pub returns-in-EditUndo-clause-tells : goal.returns-in-EditUndo-clause-tells
 returns-in-EditUndo-clause-tells g c = λ windows.
-    let call = c.args.call in let widget = widget_at c.args.document.now call.caller.seat in
-    rw (c.edited-in-EditUndo.ensures, c.in-EditUndo.is) (told-text _ _ _ call.caller.follows widget c.edit_undo.result
-    c.edit_undo.ensures.told)
+    let call = c.args.call in let document = c.args.document.now in
+    rw (c.edited-in-EditUndo.ensures, c.in-EditUndo.is) (told-edited (done EditUndo document (calling call.caller.limits.now windows
+    (widget_at document call.caller.seat) (texts_of call.switches.now) call.position (texts_of call.arguments.now)))
+    document c.edit_undo.new.self call.caller.follows c.edit_undo.result c.edit_undo.ensures.told)
+
+pub returns-in-EditUndo-clause-plain : goal.returns-in-EditUndo-clause-plain
+returns-in-EditUndo-clause-plain g c =
+    rw (c.edited-in-EditUndo.ensures, c.in-EditUndo.is) (plain-text c.edit_undo.result)
 
 pub returns-in-EditRedo-clause-does : goal.returns-in-EditRedo-clause-does
 returns-in-EditRedo-clause-does g c = λ windows.
-    does-edited c.edit_redo.result c.edited-in-EditRedo.result c.edited-in-EditRedo.ensures (rw c.in-EditRedo.is
-    (c.edit_redo.ensures.does))
+    does-edited c.edit_redo.result c.edited-in-EditRedo.result c.edited-in-EditRedo.ensures
+    (rw c.in-EditRedo.is (c.edit_redo.ensures.does))
 
 pub returns-in-EditRedo-clause-tells : goal.returns-in-EditRedo-clause-tells
 returns-in-EditRedo-clause-tells g c = λ windows.
-    let call = c.args.call in let widget = widget_at c.args.document.now call.caller.seat in
-    rw (c.edited-in-EditRedo.ensures, c.in-EditRedo.is) (told-text _ _ _ call.caller.follows widget c.edit_redo.result
-    c.edit_redo.ensures.told)
+    let call = c.args.call in let document = c.args.document.now in
+    rw (c.edited-in-EditRedo.ensures, c.in-EditRedo.is) (told-edited (done EditRedo document (calling call.caller.limits.now windows
+    (widget_at document call.caller.seat) (texts_of call.switches.now) call.position (texts_of call.arguments.now)))
+    document c.edit_redo.new.self call.caller.follows c.edit_redo.result c.edit_redo.ensures.told)
+
+pub returns-in-EditRedo-clause-plain : goal.returns-in-EditRedo-clause-plain
+returns-in-EditRedo-clause-plain g c =
+    rw (c.edited-in-EditRedo.ensures, c.in-EditRedo.is) (plain-text c.edit_redo.result)
 
 pub returns-in-TagAdd-clause-does : goal.returns-in-TagAdd-clause-does
 returns-in-TagAdd-clause-does g c = λ windows.
-    does-edited c.tag_add.result c.edited-in-TagAdd.result c.edited-in-TagAdd.ensures (rw c.in-TagAdd.is
-    (c.tag_add.ensures.does))
+    does-edited c.tag_add.result c.edited-in-TagAdd.result c.edited-in-TagAdd.ensures
+    (rw c.in-TagAdd.is (c.tag_add.ensures.does))
 
 pub returns-in-TagAdd-clause-tells : goal.returns-in-TagAdd-clause-tells
 returns-in-TagAdd-clause-tells g c = λ windows.
-    let call = c.args.call in let widget = widget_at c.args.document.now call.caller.seat in
-    rw (c.edited-in-TagAdd.ensures, c.in-TagAdd.is) (told-tags call.caller.limits.now _ _
-    call.caller.follows windows widget [] call.position (texts_of call.arguments.now) TagAdd c.tag_add.result refl (λ
-    move. move) (c.tag_add.ensures.does)
-    c.tag_add.ensures.told)
+    let call = c.args.call in let document = c.args.document.now in
+    rw (c.edited-in-TagAdd.ensures, c.in-TagAdd.is) (told-edited (done TagAdd document (calling call.caller.limits.now windows
+    (widget_at document call.caller.seat) (texts_of call.switches.now) call.position (texts_of call.arguments.now)))
+    document c.tag_add.new.document call.caller.follows c.tag_add.result c.tag_add.ensures.told)
+
+pub returns-in-TagAdd-clause-plain : goal.returns-in-TagAdd-clause-plain
+returns-in-TagAdd-clause-plain g c =
+    rw (c.edited-in-TagAdd.ensures, c.in-TagAdd.is) (plain-tags c.tag_add.result c.tag_add.ensures.still)
 
 pub returns-in-TagRemove-clause-does : goal.returns-in-TagRemove-clause-does
 returns-in-TagRemove-clause-does g c = λ windows.
-    does-edited c.tag_remove.result c.edited-in-TagRemove.result c.edited-in-TagRemove.ensures (rw c.in-TagRemove.is
-    (c.tag_remove.ensures.does c.args.call.caller.limits.now))
+    does-edited c.tag_remove.result c.edited-in-TagRemove.result c.edited-in-TagRemove.ensures
+    (rw c.in-TagRemove.is (c.tag_remove.ensures.does c.args.call.caller.limits.now))
 
 pub returns-in-TagRemove-clause-tells : goal.returns-in-TagRemove-clause-tells
 returns-in-TagRemove-clause-tells g c = λ windows.
-    let call = c.args.call in let widget = widget_at c.args.document.now call.caller.seat in
-    rw (c.edited-in-TagRemove.ensures, c.in-TagRemove.is) (told-tags call.caller.limits.now _ _
-    call.caller.follows windows widget [] call.position (texts_of call.arguments.now) TagRemove c.tag_remove.result refl
-    (λ move. move) (c.tag_remove.ensures.does c.args.call.caller.limits.now)
-    c.tag_remove.ensures.told)
+    let call = c.args.call in let document = c.args.document.now in
+    rw (c.edited-in-TagRemove.ensures, c.in-TagRemove.is) (told-edited (done TagRemove document (calling call.caller.limits.now windows
+    (widget_at document call.caller.seat) (texts_of call.switches.now) call.position (texts_of call.arguments.now)))
+    document c.tag_remove.new.document call.caller.follows c.tag_remove.result c.tag_remove.ensures.told)
+
+pub returns-in-TagRemove-clause-plain : goal.returns-in-TagRemove-clause-plain
+returns-in-TagRemove-clause-plain g c =
+    rw (c.edited-in-TagRemove.ensures, c.in-TagRemove.is) (plain-tags c.tag_remove.result c.tag_remove.ensures.still)
 
 pub returns-in-TagDelete-clause-does : goal.returns-in-TagDelete-clause-does
 returns-in-TagDelete-clause-does g c = λ windows.
-    does-edited c.delete_tags.result c.edited-in-TagDelete.result c.edited-in-TagDelete.ensures (rw
-    c.in-TagDelete.is (c.delete_tags.ensures.does c.args.call.caller.limits.now))
+    does-edited c.delete_tags.result c.edited-in-TagDelete.result c.edited-in-TagDelete.ensures
+    (rw c.in-TagDelete.is (c.delete_tags.ensures.does c.args.call.caller.limits.now))
 
 pub returns-in-TagDelete-clause-tells : goal.returns-in-TagDelete-clause-tells
 returns-in-TagDelete-clause-tells g c = λ windows.
-    let call = c.args.call in let widget = widget_at c.args.document.now call.caller.seat in
-    rw (c.edited-in-TagDelete.ensures, c.in-TagDelete.is) (told-tags call.caller.limits.now _ _
-    call.caller.follows windows widget [] call.position (texts_of call.arguments.now) TagDelete c.delete_tags.result refl
-    (λ move. move) (c.delete_tags.ensures.does c.args.call.caller.limits.now)
-    c.delete_tags.ensures.told)
+    let call = c.args.call in let document = c.args.document.now in
+    rw (c.edited-in-TagDelete.ensures, c.in-TagDelete.is) (told-edited (done TagDelete document (calling call.caller.limits.now windows
+    (widget_at document call.caller.seat) (texts_of call.switches.now) call.position (texts_of call.arguments.now)))
+    document c.delete_tags.new.self call.caller.follows c.delete_tags.result c.delete_tags.ensures.told)
 
-pub returns-in-MarkSet-clause-does : goal.returns-in-MarkSet-clause-does
-returns-in-MarkSet-clause-does g c = λ windows.
-    does-moved c.mark_set.result c.moved.result c.moved.ensures (rw c.in-MarkSet.is (c.mark_set.ensures.does))
-
-pub returns-in-MarkSet-clause-tells : goal.returns-in-MarkSet-clause-tells
-returns-in-MarkSet-clause-tells g c = λ windows.
-    let call = c.args.call in let widget = widget_at c.args.document.now call.caller.seat in
-    rw (c.moved.ensures, c.in-MarkSet.is) (told-marks call.caller.limits.now _ _
-    call.caller.follows windows widget [] call.position (texts_of call.arguments.now) MarkSet c.mark_set.result (λ edit.
-    edit) (λ edit. edit) (c.mark_set.ensures.does)
-    c.mark_set.ensures.told)
-
-pub returns-in-MarkUnset-clause-does : goal.returns-in-MarkUnset-clause-does
-returns-in-MarkUnset-clause-does g c = λ windows.
-    does-moved c.unset_marks.result c.moved-in-MarkUnset.result c.moved-in-MarkUnset.ensures (rw c.in-MarkUnset.is
-    (c.unset_marks.ensures.does c.args.call.caller.limits.now))
-
-pub returns-in-MarkUnset-clause-tells : goal.returns-in-MarkUnset-clause-tells
-returns-in-MarkUnset-clause-tells g c = λ windows.
-    let call = c.args.call in let widget = widget_at c.args.document.now call.caller.seat in
-    rw (c.moved-in-MarkUnset.ensures, c.in-MarkUnset.is) (told-marks call.caller.limits.now _ _
-    call.caller.follows windows widget [] call.position (texts_of call.arguments.now) MarkUnset c.unset_marks.result (λ
-    edit. edit) (λ edit. edit) (c.unset_marks.ensures.does c.args.call.caller.limits.now)
-    (c.unset_marks.ensures.told widget))
+pub returns-in-TagDelete-clause-plain : goal.returns-in-TagDelete-clause-plain
+returns-in-TagDelete-clause-plain g c =
+    rw (c.edited-in-TagDelete.ensures, c.in-TagDelete.is) (plain-tags c.delete_tags.result c.delete_tags.ensures.still)
 
 pub answer-requires-clause-quiet : goal.answer-requires-clause-quiet
 answer-requires-clause-quiet g c =
     quiet-else c.args.command c.in_default.not-Insert c.in_default.not-Delete c.in_default.not-Replace
     c.in_default.not-EditUndo c.in_default.not-EditRedo c.in_default.not-TagAdd c.in_default.not-TagRemove
-    c.in_default.not-TagDelete c.in_default.not-MarkSet c.in_default.not-MarkUnset
+    c.in_default.not-TagDelete
 
 pub returns-in_default-clause-does : goal.returns-in_default-clause-does
 returns-in_default-clause-does g c = λ windows.
@@ -136,13 +146,19 @@ returns-in_default-clause-does g c = λ windows.
 pub returns-in_default-clause-tells : goal.returns-in_default-clause-tells
 returns-in_default-clause-tells g c = λ windows.
     let call = c.args.call in let widget = widget_at c.args.document.now call.caller.seat in
-    rw c.answered.ensures (told-quiet call.caller.limits.now _ _ call.caller.follows windows widget
+    rw c.answered.ensures (told-quiet call.caller.limits.now c.args.document.now c.answer.new.document
+    call.caller.follows windows widget
     (texts_of call.switches.now) call.position (texts_of call.arguments.now) c.args.command c.answer.result
     (quiet-else c.args.command
     c.in_default.not-Insert c.in_default.not-Delete c.in_default.not-Replace
     c.in_default.not-EditUndo c.in_default.not-EditRedo c.in_default.not-TagAdd c.in_default.not-TagRemove
-    c.in_default.not-TagDelete c.in_default.not-MarkSet c.in_default.not-MarkUnset)
+    c.in_default.not-TagDelete)
     (c.answer.ensures.does windows))
+
+pub returns-in_default-clause-plain : goal.returns-in_default-clause-plain
+returns-in_default-clause-plain g c =
+    subst (λ result. IfOk result (IsPlain (edits_text c.args.command))) (sym c.answered.ensures)
+    (plain-answered (edits_text c.args.command) c.answer.result)
 
 pub returns-in_default-clause-frugal : goal.returns-in_default-clause-frugal
 returns-in_default-clause-frugal g c = λ frugal.

@@ -1,5 +1,4 @@
 use Rattle.peers.proofs.Common.{sym, ap, ap₂, ◌∙◌, subst, texts_of, done, shaped, widget_at, AreTold, Change}
-use Rattle.peers.proofs.Common.{edits_text}
 use Rattle.peers.proofs.ArgumentLaws.{arguments-part, switches-part}
 use Rattle.peers.proofs.PromiseLaws.{does-same}
 use Rattle.peers.proofs.commands.command.Goals as goal
@@ -24,8 +23,8 @@ pub returns-clause-tells : goal.returns-clause-tells
 returns-clause-tells g c = λ windows.
     let document = c.args.document.now in let limits = c.args.caller.limits.now in
     let widget = widget_at document c.args.caller.seat in let shape = c.args.shape in
-    subst (λ (change : Change). AreTold c.args.caller.follows (edits_text shape.command) change document
-    c.carry_out.new.document widget c.carry_out.result)
+    subst (λ (change : Change). AreTold c.args.caller.follows change document c.carry_out.new.document
+    c.carry_out.result)
     (ap₂ (λ switches arguments. done shape.command document (record {
       limits = limits;
       windows = windows;

@@ -1,7 +1,6 @@
 use Rattle.documents.proofs.Common.{map, ap, ◌∙◌, texts_of, Content, MarkNo, parts_of}
 use Rattle.documents.proofs.ChangeLaws.{some_limits, stands-same}
 use Rattle.documents.proofs.MarkLaws.{leaves-unset}
-use Rattle.documents.proofs.MarksToldLaws.{marks-made}
 use Rattle.documents.proofs.PartsLaws.{stand}
 use Rattle.documents.proofs.documents.Document.unset_marks.Goals as goal
 
@@ -18,12 +17,8 @@ invariant_of-self-2 g c =
     (ap (map (λ (number : MarkNo). number.0)) c.deref.ensures.value ∙ c.in_ok-numbers.ensures)
     c.in_ok-take_marks.ensures.ok).sound
 
-pub returns-clause-does : goal.returns-clause-does
-returns-clause-does g c = λ limits.
+pub returns : goal.returns
+returns g c = λ limits.
     (leaves-unset limits (texts_of c.args.names.now) (stand c.self.invariant c.self.view_is)
     c.len-count.ensures.sound c.unset_names.ensures
     (ap (map (λ (number : MarkNo). number.0)) c.deref.ensures.value ∙ c.in_ok-numbers.ensures) c.in_ok-take_marks.ensures.ok).does
-
-pub returns-clause-told : goal.returns-clause-told
-returns-clause-told g c = λ widget follows.
-    marks-made (returns-clause-does g c some_limits) (c.in_ok-told.ensures follows widget)

@@ -8,6 +8,6 @@ returns c =
     record {
       plain = λ no. calls-held _ _ c.deref_mut.result.now c.call_bytes-ended.new.self c.args.lengths.now
           c.args.bytes.now c.call_bytes-ended.result was c.put.ensures.session (c.call_bytes-ended.ensures.plain no);
-      told = λ yes. calls_told-held _ _ c.deref_mut.result.now c.call_bytes-ended.new.self c.args.lengths.now
-          c.args.bytes.now c.call_bytes-ended.result was c.put.ensures.session (c.call_bytes-ended.ensures.told yes);
+      told = λ yes. calls_told-held c.args.marks _ _ c.deref_mut.result.now c.call_bytes-ended.new.self
+          c.args.lengths.now c.args.bytes.now c.call_bytes-ended.result was c.put.ensures.session (c.call_bytes-ended.ensures.told yes);
     }

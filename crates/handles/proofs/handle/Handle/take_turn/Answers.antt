@@ -8,6 +8,6 @@ returns c =
     record {
       plain = λ no. takes-held _ _ c.deref_mut.result.now c.take_turn-ended.new.self c.take_turn-ended.result was
           c.put.ensures.session (c.take_turn-ended.ensures.plain no);
-      told = λ yes. takes_told-held _ _ c.deref_mut.result.now c.take_turn-ended.new.self c.take_turn-ended.result was
-          c.put.ensures.session (c.take_turn-ended.ensures.told yes);
+      told = λ yes. takes_told-held c.args.marks _ _ c.deref_mut.result.now c.take_turn-ended.new.self
+          c.take_turn-ended.result was c.put.ensures.session (c.take_turn-ended.ensures.told yes);
     }

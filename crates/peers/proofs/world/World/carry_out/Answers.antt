@@ -1,9 +1,9 @@
-use Rattle.peers.proofs.Common.{◌≡◌, true, false, sym, ap, ◌∙◌, subst, true≢false, IfOk, chars, string_bytes, texts_of}
-use Rattle.peers.proofs.Common.{is_same, literal, reading, Makes, step, create_shaped, destroy_shaped, on_widget}
-use Rattle.peers.proofs.Common.{TellsOf, MarksTellOf, TellsAt, MarksTellAt, answer_of, IsWellFormed, home, IfOk-weaker}
-use Rattle.peers.proofs.Common.{is_frugal_reading, are_frugal, Outcome}
+use Rattle.peers.proofs.Common.{[], ◌≡◌, true, false, sym, ap, ◌∙◌, subst, true≢false, IfOk, chars, string_bytes}
+use Rattle.peers.proofs.Common.{texts_of, is_same, literal, reading, Makes, step, create_shaped, destroy_shaped}
+use Rattle.peers.proofs.Common.{on_widget, TellsOf, MarksTellOf, TellsAt, MarksTellAt, answer_of, IsWellFormed, home}
+use Rattle.peers.proofs.Common.{IfOk-weaker, is_frugal_reading, are_frugal, Outcome}
 use Rattle.peers.specs.Told.{answered}
-use Rattle.peers.proofs.ToldLaws.{answer-answered}
+use Rattle.peers.proofs.ToldLaws.{answer-answered, plain-answered}
 use Rattle.peers.proofs.ToldStepLaws.{destroy-none, destroy-step as destroys, named, named-marks, text-none, text-step}
 use Rattle.peers.proofs.ToldStepLaws.{unnamed, widget-step}
 use Rattle.peers.proofs.world.World.carry_out.Goals.{After-create_shaped, After-destroy_shaped, After-on_widget}
@@ -35,7 +35,8 @@ returns-then-is_word-clause-makes g c =
 -- what it tells
 create-tells : (g : _) (c : After-create_shaped g) → IfOk (answered c.create_shaped.result) (λ told.
     TellsOf c.args.self.now c.create_shaped.new.self (texts_of c.args.words.now) told.edit
-    × MarksTellOf c.args.self.now c.create_shaped.new.self (texts_of c.args.words.now) told.marks)
+    × MarksTellOf c.args.self.now c.create_shaped.new.self (texts_of c.args.words.now) told.edit.changes
+    told.marks)
 create-tells g c =
     unnamed c.args.self.now c.create_shaped.new.self c.args.words.now c.name-item.result c.create_shaped.result
     (subst IsWellFormed c.self.view_is c.self.invariant.0) c.in-len1-up.len_at_least c.name-item.is
@@ -50,9 +51,16 @@ returns-then-is_word-clause-tells g c = λ _.
 pub returns-then-is_word-clause-marks : goal.returns-then-is_word-clause-marks
 returns-then-is_word-clause-marks g c = λ _.
     subst (λ told. IfOk told (λ told.
-    MarksTellOf c.args.self.now c.create_shaped.new.self (texts_of c.args.words.now) told.marks)) (sym c.answered.ensures)
+    MarksTellOf c.args.self.now c.create_shaped.new.self (texts_of c.args.words.now) told.edit.changes
+    told.marks)) (sym c.answered.ensures)
     (IfOk-weaker (answered c.create_shaped.result) _ _ (λ told tells. tells.1)
     (create-tells g (goal.at.returns-then-is_word-clause-marks g c).After-create_shaped))
+
+pub returns-then-is_word-clause-unasked : goal.returns-then-is_word-clause-unasked
+returns-then-is_word-clause-unasked g c = λ _.
+    subst (λ told. IfOk told (λ told. told.marks ≡ [])) (sym c.answered.ensures)
+    (IfOk-weaker (answered c.create_shaped.result) _ _ (λ told plain. plain.marks)
+    (plain-answered false c.create_shaped.result))
 
 pub returns-then-is_word-clause-frugal : goal.returns-then-is_word-clause-frugal
 returns-then-is_word-clause-frugal g c = λ frugal.
@@ -89,7 +97,8 @@ returns-then-is_word-2-clause-makes g c =
 -- what it tells
 destroy-tells : (g : _) (c : After-destroy_shaped g) → IfOk (answered c.destroy_shaped.result) (λ told.
     TellsOf c.args.self.now c.destroy_shaped.new.self (texts_of c.args.words.now) told.edit
-    × MarksTellOf c.args.self.now c.destroy_shaped.new.self (texts_of c.args.words.now) told.marks)
+    × MarksTellOf c.args.self.now c.destroy_shaped.new.self (texts_of c.args.words.now) told.edit.changes
+    told.marks)
 destroy-tells g c =
     unnamed c.args.self.now c.destroy_shaped.new.self c.args.words.now c.name-item.result c.destroy_shaped.result
     (subst IsWellFormed c.self.view_is c.self.invariant.0) c.in-len1-up.len_at_least c.name-item.is
@@ -104,9 +113,16 @@ returns-then-is_word-2-clause-tells g c = λ _.
 pub returns-then-is_word-2-clause-marks : goal.returns-then-is_word-2-clause-marks
 returns-then-is_word-2-clause-marks g c = λ _.
     subst (λ told. IfOk told (λ told.
-    MarksTellOf c.args.self.now c.destroy_shaped.new.self (texts_of c.args.words.now) told.marks)) (sym c.answered-then-is_word-2.ensures)
+    MarksTellOf c.args.self.now c.destroy_shaped.new.self (texts_of c.args.words.now) told.edit.changes
+    told.marks)) (sym c.answered-then-is_word-2.ensures)
     (IfOk-weaker (answered c.destroy_shaped.result) _ _ (λ told tells. tells.1)
     (destroy-tells g (goal.at.returns-then-is_word-2-clause-marks g c).After-destroy_shaped))
+
+pub returns-then-is_word-2-clause-unasked : goal.returns-then-is_word-2-clause-unasked
+returns-then-is_word-2-clause-unasked g c = λ _.
+    subst (λ told. IfOk told (λ told. told.marks ≡ [])) (sym c.answered-then-is_word-2.ensures)
+    (IfOk-weaker (answered c.destroy_shaped.result) _ _ (λ told plain. plain.marks)
+    (plain-answered false c.destroy_shaped.result))
 
 pub returns-then-is_word-2-clause-frugal : goal.returns-then-is_word-2-clause-frugal
 returns-then-is_word-2-clause-frugal g c = λ frugal.
@@ -149,7 +165,7 @@ returns-else-is_word-2-clause-marks g c = λ follows.
     let world = c.args.self.now in let new = c.on_widget.new.self in
     named-marks world new c.args.words.now c.name-item.result c.in-len1-up.len_at_least c.name-item.is
     c.on_widget.result (subst (λ bytes. IfOk c.on_widget.result (λ told.
-    MarksTellAt world new (chars bytes) (texts_of c.args.words.now) (home (chars bytes) world.documents) told.marks))
+    MarksTellAt world new (home (chars bytes) world.documents) told.edit.changes told.marks))
     c.as_str-name.ensures.value (c.on_widget.ensures.marks follows))
 
 pub returns-else-is_word-2-clause-frugal : goal.returns-else-is_word-2-clause-frugal

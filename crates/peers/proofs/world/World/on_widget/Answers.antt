@@ -55,13 +55,13 @@ there g c =
 
 pub returns-in-Ok-clause-tells : goal.returns-in-Ok-clause-tells
 returns-in-Ok-clause-tells g c =
-    subst (λ at. c.args.follows ≡ true → IfOk c.on_document.result (λ told.
+    subst (λ at. c.args.follows.text ≡ true → IfOk c.on_document.result (λ told.
     TellsAt c.args.self.now c.on_document.new.self at
     (on_home c.args.self.now (chars c.args.name.now) (texts_of c.args.words.now) at).edits told.edit))
     (sym (there g (goal.at.returns-in-Ok-clause-tells g c).After-on_document)) c.on_document.ensures.tells
 
 pub returns-in-Ok-clause-marks : goal.returns-in-Ok-clause-marks
 returns-in-Ok-clause-marks g c =
-    subst (λ at. c.args.follows ≡ true → IfOk c.on_document.result (λ told. MarksTellAt c.args.self.now
-    c.on_document.new.self (chars c.args.name.now) (texts_of c.args.words.now) at told.marks))
+    subst (λ at. c.args.follows.marks ≡ true → IfOk c.on_document.result (λ told. MarksTellAt c.args.self.now
+    c.on_document.new.self at told.edit.changes told.marks))
     (sym (there g (goal.at.returns-in-Ok-clause-marks g c).After-on_document)) c.on_document.ensures.marks
