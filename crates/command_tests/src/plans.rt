@@ -85,7 +85,7 @@ fn insert<S: TextStore>(
 }
 
 // Whether a plan knows its delta, which has these hunks.
-fn knows(delta: &Option<Delta>, hunks: &[(usize, usize, &str)]) -> bool {
+fn knows(delta: &Option<Box<Delta>>, hunks: &[(usize, usize, &str)]) -> bool {
     match delta {
         None => false,
         Some(delta) => are(&delta.hunks, hunks),
@@ -265,7 +265,7 @@ fn undo_delta<S: TextStore>(
     alloc: Global,
     limits: &Limits,
     text: &mut EditedText<S>,
-) -> Result<Option<Delta>, Fail>
+) -> Result<Option<Box<Delta>>, Fail>
     requires { IsKept limits.now.chars RECORDING (state_in S.content text.old) }
 {
     assert!(rt; anchors_stand(&text.anchors, text.store.len()));
@@ -285,21 +285,14 @@ fn gets_slot(runs: &[SlotRun]) -> bool {
 }
 
 // Whether a delta has one hunk, and what that inserts gets slots where some are wanted.
-fn is_one(delta: Option<Delta>, hunk: (usize, usize, &str), slotted: bool) -> bool {
-    let Some(
-        Delta {
-            hunks,
-            lost,
-            gained,
-        },
-    ) = delta
-    else {
+fn is_one(delta: Option<Box<Delta>>, hunk: (usize, usize, &str), slotted: bool) -> bool {
+    let Some(delta) = delta else {
         return false;
     };
-    if gets_slot(&gained) != slotted || gained.is_empty() == slotted {
+    if gets_slot(&delta.gained) != slotted || delta.gained.is_empty() == slotted {
         return false;
     }
-    are(&hunks, &[hunk]) && lost.is_none()
+    are(&delta.hunks, &[hunk]) && delta.lost.is_none()
 }
 
 // What was inserted would go.

@@ -3,9 +3,8 @@ use Rattle.documents.proofs.Common.{◌≡◌, ℕ, ◌+◌, ◌<◌, ◌≤◌,
 use Rattle.documents.proofs.Common.{get_or, refl, sym, ap, ◌∙◌, arith, subst, inl, inr, true≢false, append-nil}
 use Rattle.documents.proofs.Common.{append_assoc, Some, slice_get, get_or_from_slice_get, drop_more, All, All-append}
 use Rattle.documents.proofs.Common.{All-cons, All-nil, All-push, All-weaker, is_alike, flag_at, next_change, Span, Key}
-use Rattle.documents.proofs.Common.{AddsRuns, AreGapped, LeavesGap, LiesIn, TagChange, next-other}
+use Rattle.documents.proofs.Common.{AddsRuns, AreGapped, LeavesGap, LiesIn, TagChange, next-other, AreApart}
 use mathlib.Core.Bool.{beq}
-use Rattle.edit_ops.specs.Deletions.{AreApart}
 use Rattle.documents.proofs.TagRunLaws.{gapped-append}
 
 lie-wider : (key : Key) (from to lower upper : ℕ) (changes : List TagChange) → lower ≤ from → to ≤ upper →

@@ -3,10 +3,10 @@ use Rattle.documents.proofs.Common.{◌≡◌, ℕ, Bool, true, false, cond, not
 use Rattle.documents.proofs.Common.{and_parts, Some, filter, map, refl, sym, ap, ap₂, ◌∙◌, true≢false, eq-eqb, ne_eqb}
 use Rattle.documents.proofs.Common.{bytes_eq, if◌then◌else◌, Equal-is, tied_itself, both_ways, nat_cmp_total}
 use Rattle.documents.proofs.Common.{unsigned_tied, eq_by_cmp, nat_cmp, list_any, false_from_ne_true, none-some}
-use Rattle.documents.proofs.Common.{bytes_eq-Decides, AreApart, Named, AreTags, Tag, Tags, sel, slot_of, Slots}
-use Rattle.documents.proofs.Common.{set_slot, contains-set_slot, without, is_among, is_same, Key, Keys, is_shared}
-use Rattle.documents.proofs.Common.{key_cmp, key_pairs, keys_of, seat_pair, set_key, tag_pair, AreKnown, AreSeats, ◌==◌}
-use Rattle.name_list.specs.Names.{names_of}
+use Rattle.documents.proofs.Common.{bytes_eq-Decides, Named, AreTags, Tag, Tags, sel, slot_of, Slots, set_slot}
+use Rattle.documents.proofs.Common.{contains-set_slot, without, is_among, is_same, Key, Keys, is_shared, key_cmp}
+use Rattle.documents.proofs.Common.{key_pairs, keys_of, seat_pair, set_key, tag_pair, AreKnown, AreSeats, ◌==◌}
+use Rattle.name_list.specs.Names.{names_of, AreApart}
 use Rattle.tag_table.specs.Tags.{names_of as tag_names}
 use Rattle.documents.proofs.KeyLaws.{key_cmp_total, key_cmp_exact}
 use Rattle.documents.proofs.LookupLaws.{AreApart-filter, has, looked-among, looked-any, and_none}

@@ -22,12 +22,12 @@ marks-next goes xs items at x made within before is =
     ∙ set-next (mark_taken goes) xs at x within
     ∙ ap (λ n. map (mark_taken goes) (take n xs) ++ drop n xs) one
 
-option-through : (f g : Place → Place) (found : Option Place) →
+pub option-through : (f g : Place → Place) (found : Option Place) →
     option_map (λ (place : Place). g (f place)) found ≡ option_map g (option_map f found)
 option-through f g None = refl
 option-through f g (Some place) = refl
 
-option-same : (found : Option Place) → option_map (λ (place : Place). place) found ≡ found
+pub option-same : (found : Option Place) → option_map (λ (place : Place). place) found ≡ found
 option-same None = refl
 option-same (Some place) = refl
 

@@ -52,8 +52,8 @@ pub use Rattle.documents.specs.Marks.{usable_marks, with_current, with_insert, w
 pub use Rattle.documents.specs.MarksListed.{AreListed, IsSettled, all_carried_within, carried_within, mark_taken}
 pub use Rattle.documents.specs.MarksListed.{shared_key}
 pub use Rattle.documents.specs.MarksTold.{AreCarried, AreOthers, AreSingle, AreWatched, HasMarksBut, IsMarkChange}
-pub use Rattle.documents.specs.MarksTold.{TellsMarks, carried, carried_all, mark_at, mark_carried, mark_key, mark_keys}
-pub use Rattle.documents.specs.MarksTold.{own_keys, place_of_kind, watched}
+pub use Rattle.documents.specs.MarksTold.{TakesMarksBut, TellsMarks, carried, carried_all, mark_at, mark_carried}
+pub use Rattle.documents.specs.MarksTold.{mark_key, mark_keys, own_keys, place_of_kind, watched}
 pub use Rattle.documents.specs.Names.{key_of, mark_number, mark_place, meanings, place_of, tag_flags, tag_number}
 pub use Rattle.documents.specs.Options.{AreLines, IsLine, anchor_at, settings_of, widget_set, with_settings}
 pub use Rattle.documents.specs.Promise.{Change, Does, Gives, answered, change_with, edited, refused, unless_idle}
@@ -78,7 +78,7 @@ pub use Rattle.documents.specs.declared.mark_lists.MarkKind.TheVariants.{Current
 pub use Rattle.documents.specs.declared.tag_lists.TagChange.{TagChange}
 pub use Rattle.documents.specs.declared.told.EditTold.{EditTold}
 pub use Rattle.edit_ops.proofs.AnchoredLaws.{all-moved, all-removed, anchored-stand}
-pub use Rattle.edit_ops.proofs.HunkLaws.{map-patched}
+pub use Rattle.edit_ops.proofs.HunkLaws.{inserting-of, map-patched}
 pub use Rattle.edit_ops.proofs.KeepLaws.{deleted-kept, deleted-runs, replaced-kept, texts-kept}
 pub use Rattle.edit_ops.proofs.ReversalLaws.{back-cons, back-reverted, back-undone, group-redone-text}
 pub use Rattle.edit_ops.proofs.ReversalLaws.{group-undone-text, guarded, guarded-holds, redone-kept, redone-text}
@@ -86,7 +86,8 @@ pub use Rattle.edit_ops.proofs.ReversalLaws.{undone-kept}
 pub use Rattle.edit_ops.proofs.RunLaws.{inside, inside-before, inside-behind, inside-is, some_is}
 pub use Rattle.edit_ops.proofs.StartLaws.{Begins, inserted-behind, is-start, removed-behind, text-end-begins}
 pub use Rattle.edit_ops.specs.Anchors.{AnchorsStand, AreAnchored, anchors_moved, anchors_removed}
-pub use Rattle.edit_ops.specs.Deletions.{delete_set, deleted, deletions_in, in_spans, removed_spans, runs_below}
+pub use Rattle.edit_ops.specs.Deletions.{AreApart, delete_set, deleted, deletions_in, in_spans, removed_spans}
+pub use Rattle.edit_ops.specs.Deletions.{runs_below}
 pub use Rattle.edit_ops.specs.Deltas.{IsDelta, IsLostRun, KnowsDelta, bared, hunks_made, lost_run}
 pub use Rattle.edit_ops.specs.Insertions.{inserted_text, inserted_texts, pieces_text, slots_or}
 pub use Rattle.edit_ops.specs.Removals.{clipped, removed_span, replaced_span}
@@ -97,7 +98,7 @@ pub use Rattle.edit_ops.specs.SlotRuns.{AreBareRuns, IsBareRun, bare_cells, slot
 pub use Rattle.edit_ops.specs.States.{Log, State, log_noted, log_of, state_of}
 pub use Rattle.edit_ops.specs.Tagging.{SpanFits, cell_without, cleared, tagged, without}
 pub use Rattle.edit_ops.specs.Told.{AreExact, AreFalling, AreHunks, AreHunksOf, Tells, after_change, deletion}
-pub use Rattle.edit_ops.specs.Told.{hunk_changes, insertion, patched, patched_by}
+pub use Rattle.edit_ops.specs.Told.{hunk_changes, insertion, patched, patched_by, replacing}
 pub use Rattle.edit_ops.specs.declared.anchors.Anchors.{Anchors}
 pub use Rattle.edit_ops.specs.declared.changes.TextChange.{TextChange}
 pub use Rattle.edit_ops.specs.declared.slot_runs.SlotRun.{SlotRun}
@@ -110,7 +111,7 @@ pub use Rattle.mark_table.specs.declared.order.Shown.{Shown}
 pub use Rattle.mark_table.specs.declared.order.WidgetMark.{WidgetMark}
 pub use Rattle.name_list.proofs.ListLaws.{AreApart-insert, Contains-from_stands, stands_from_Contains, stands_map}
 pub use Rattle.name_list.proofs.ListLaws.{stood_at}
-pub use Rattle.name_list.specs.Names.{AreApart, AreNames, IsLeastFree, Named, Names, numbers_of}
+pub use Rattle.name_list.specs.Names.{AreNames, IsLeastFree, Named, Names, numbers_of}
 pub use Rattle.search_dump.specs.Dump.{dump_elements, name_of_rank, seen_by}
 pub use Rattle.std.proofs.Math.ListN.{replicate}
 pub use Rattle.std.proofs.lemmas.Bool.{false≢true, and_parts, cases_lt, eqb-false, false_from_ne_true, le-leb, le-ltb}
@@ -139,7 +140,7 @@ pub use Rattle.std.specs.Cmp.{Equal-is, IsTotalOrder, both_ways, nat_cmp_total, 
 pub use Rattle.std.specs.List.{All, AllByRecursion, cons_option, flat_map, fold, list_any, position_from}
 pub use Rattle.std.specs.Option.{option_or}
 pub use Rattle.std.specs.Ordering.{eq_by_cmp, is_eq, nat_cmp}
-pub use Rattle.std.specs.Prelude.{IsUtf8, box_value, codes, is_ok, unwrap_or}
+pub use Rattle.std.specs.Prelude.{Box, IsUtf8, box_value, codes, is_ok, reverse, unwrap_or}
 pub use Rattle.tag_table.specs.Priority.{next_to}
 pub use Rattle.tag_table.specs.Tags.{AreTags, Tag, Tags, first_slot, is_named, names_of, sel, slot_of, slots_of}
 pub use Rattle.tag_table.specs.declared.faults.NoSuchTag.TheVariants.{Moved, Neighbour}
@@ -164,7 +165,7 @@ pub use Rattle.text_model.specs.Content.{Content, Marks, Slots, flags, map_marks
 pub use Rattle.text_model.specs.Documents.{IsDocument, MarksStand, ends_in_newline}
 pub use Rattle.text_model.specs.LimitTable.{AreLimits, LimitTable}
 pub use Rattle.text_model.specs.Lines.{IsLineStart, is_newline, line_of, line_start, lines}
-pub use Rattle.text_model.specs.Splices.{changed, drawn, goes_behind, inserted, moved, removed}
+pub use Rattle.text_model.specs.Splices.{changed, drawn, goes_behind, inserted, is_right, moved, removed}
 pub use Rattle.text_model.specs.Steps.{after_insertion, after_removal, after_step, cells_of, set_slot, with_slot}
 pub use Rattle.text_model.specs.Steps.{without_slots}
 pub use Rattle.text_model.specs.declared.cells.Cell.{Cell}

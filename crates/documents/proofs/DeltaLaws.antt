@@ -4,8 +4,9 @@ use Rattle.documents.proofs.Common.{sym, ap, ap₂, subst, ◌∙◌, arith, app
 use Rattle.documents.proofs.Common.{Action, AreHunksOf, bare_cells, slotted, Tells, hunk_changes, patched, patched_by}
 use Rattle.documents.proofs.Common.{map-patched, SlotRun, AreSeats, AreTags, Tags, Key, key_pairs, keyed, untagged}
 use Rattle.documents.proofs.Common.{KeyedCell, TellsCells, TellsTags, TagChange, EditTold, bare, false, Bool, AreHunks}
-use Rattle.documents.proofs.Common.{IfSome, Anchors, Content, Log, State, IsDelta, IsLostRun, KnowsDelta, bared}
-use Rattle.documents.proofs.Common.{hunks_made, lost_run, AreBareRuns, is_turned, AreGapped, AreRising, TellsRuns}
+use Rattle.documents.proofs.Common.{Box, box_value, IfSome, Anchors, Content, Log, State, IsDelta, IsLostRun}
+use Rattle.documents.proofs.Common.{KnowsDelta, bared, hunks_made, lost_run, AreBareRuns, is_turned, AreGapped}
+use Rattle.documents.proofs.Common.{AreRising, TellsRuns}
 use Rattle.edit_ops.specs.Plans.{planned}
 use Rattle.edit_ops.specs.declared.plans.Effects.{Effects}
 use Rattle.edit_ops.specs.declared.deltas.Delta.{Delta}
@@ -102,8 +103,9 @@ module _ (seats : List Named) (table : Tags) (seated : AreSeats seats) (sound : 
 -- ---- what is known of a plan's delta
 
 -- its hunks are of the old text
-pub known-stand : (follows : Bool) (actions : List Action) (old new : List Cell) (delta : Option Delta)
-    → KnowsDelta follows actions old new delta → IfSome delta (λ delta. AreHunks 0 (length old) delta.hunks.items)
+pub known-stand : {Z : Type 0} (follows : Bool) (actions : List Action) (old new : List Cell)
+    (delta : Option (Box Delta Z)) → KnowsDelta follows actions old new delta
+    → IfSome delta (λ delta. AreHunks 0 (length old) (box_value delta).hunks.items)
 known-stand follows actions old new None knows = tt
 known-stand follows actions old new (Some delta) knows = knows.1.exact.stand
 
@@ -117,13 +119,13 @@ planned-made effects {outcome} {anchors} {before} {log} {past} {new} {made} is s
     is ∙ ap₂ (planned effects outcome) same kept ∙ leads
 
 -- what is reported of it, to a caller who follows
-pub told-planned : (pairs : List (ℕ × Key)) (delta : Option Delta) {follows : Bool} {done actions : List Action}
+pub told-planned : {Z : Type 0} (pairs : List (ℕ × Key)) (delta : Option (Box Delta Z)) {follows : Bool} {done actions : List Action}
     {old middle new outcome : List Cell} {cells : List KeyedCell} {told : EditTold}
     → ((actions : List Action) → KnowsDelta true actions middle new delta
     → TellsCells actions (keyed pairs middle) (keyed pairs new) told)
     → middle ≡ old → new ≡ outcome → follows ≡ true → done ≡ actions → KnowsDelta follows done old outcome delta
     → keyed pairs old ≡ cells → TellsCells actions cells (keyed pairs new) told
-told-planned pairs delta {follows} {done} {actions} {old} {middle} {new} {outcome} {cells} {told} tells same made asked
+told-planned {Z} pairs delta {follows} {done} {actions} {old} {middle} {new} {outcome} {cells} {told} tells same made asked
     are knows kept =
     subst (λ cs. TellsCells actions cs (keyed pairs new) told) (ap (keyed pairs) same ∙ kept)
     (tells actions (subst (λ cs. KnowsDelta true actions cs new delta) (sym same)

@@ -2,10 +2,10 @@
 use Rattle.documents.proofs.Common.{◌≡◌, ◌≢◌, ℕ, zero, suc, ◌+◌, ◌<◌, ◌≤◌, cond, List, [], ◌∷◌, refl, sym, ap, ◌∙◌}
 use Rattle.documents.proofs.Common.{true≢false, arith, Some, None, option_map, nat_cmp, All-cons, All-nil, none-some}
 use Rattle.documents.proofs.Common.{same_Some, bytes_eq-Decides, MOST_MARKS, MOST_TAGS, MOST_WIDGETS, new_content}
-use Rattle.documents.proofs.Common.{MarksStand, AreLimits, LimitTable, IsDocument-new, AreApart, AreTags, Tag}
-use Rattle.documents.proofs.Common.{first_slot, sel, no_history, unmodified, AreAnchored, first_document_settings}
-use Rattle.documents.proofs.Common.{Parts, document_of, AreMarked, HasKnownSlots, IsSound, IsWellFormedDocument}
-use Rattle.documents.proofs.Common.{slice_get}
+use Rattle.documents.proofs.Common.{MarksStand, AreLimits, LimitTable, IsDocument-new, AreTags, Tag, first_slot, sel}
+use Rattle.documents.proofs.Common.{no_history, unmodified, AreAnchored, first_document_settings, Parts, document_of}
+use Rattle.documents.proofs.Common.{AreMarked, HasKnownSlots, IsSound, IsWellFormedDocument, slice_get}
+use Rattle.name_list.specs.Names.{AreApart}
 use Rattle.documents.proofs.WellFormedLaws.{IsWellFormedDocument-kept}
 use Rattle.std.specs.FinMap as finite
 use Rattle.std.specs.FinSet as set

@@ -2,6 +2,7 @@ pub mod AbsentMarksLaws
 pub mod AddedRunLaws
 pub mod BackLaws
 pub mod BridgeLaws
+pub mod CarriedByLaws
 pub mod CarriedLaws
 pub mod CarriedMarksLaws
 pub mod ChangeLaws
@@ -38,6 +39,7 @@ pub mod NewNameLaws
 pub mod OptionLeadLaws
 pub mod OrderLaws
 pub mod PartsLaws
+pub mod PlacedByLaws
 pub mod PlacedLaws
 pub mod PlannedLaws
 pub mod QueryLaws
@@ -63,6 +65,7 @@ pub mod TagRunLaws
 pub mod TaggedLaws
 pub mod TagsToldLaws
 pub mod ToldLaws
+pub mod ToldPlaceLaws
 pub mod UndoLaws
 pub mod UndoRunLaws
 pub mod UnseatedLaws

@@ -8,13 +8,13 @@ use Rattle.documents.proofs.Common.{mark_number, placed, widget_at, widget_of, S
 use Rattle.documents.proofs.Common.{shared_key, AreOthers, AreSingle, AreWatched, HasMarksBut, mark_at, mark_key}
 use Rattle.documents.proofs.Common.{mark_keys, own_keys, watched, MarkChange, MarkKey, flat_map}
 use Rattle.name_list.specs.Names.{names_of}
+use Rattle.std.proofs.lemmas.List.Concat.{flat_map-append}
 use Rattle.documents.proofs.MarkReportLaws.{all-back, all-front, by-kind, current_key, insert_key}
 use Rattle.documents.proofs.MarksToldLaws.{among-other, left-none, left-other, same-number, sought, words-are}
 use Rattle.documents.proofs.PartsLaws.{widget-is}
 use Rattle.documents.proofs.PlacedLaws.{StandsMark, found_mark}
 use Rattle.documents.proofs.SeatLaws.{seat-named}
 use Rattle.mark_table.specs.SharedMarks.{names_of as mark_names}
-use Rattle.std.proofs.lemmas.List.Concat.{flat_map-append}
 
 -- ---- the mark of a name
 

@@ -1,9 +1,10 @@
 -- Elements of a list that are found by their names.
 use Rattle.documents.proofs.Common.{◌≡◌, ℕ, zero, suc, Bool, true, false, cond, ◌&&◌, ◌||◌, List, [], ◌∷◌, ◌++◌, Option}
 use Rattle.documents.proofs.Common.{None, Some, filter, map, refl, sym, ap, ap₂, ◌∙◌, true≢false, arith, find, bytes_eq}
-use Rattle.documents.proofs.Common.{list_any, false_from_ne_true, none-some, same_Some, bytes_eq-Decides, AreApart}
+use Rattle.documents.proofs.Common.{list_any, false_from_ne_true, none-some, same_Some, bytes_eq-Decides}
 use Rattle.documents.proofs.Common.{AreApart-insert, stands_map, stood_at, Slots, is_among, AreApart-head}
 use Rattle.documents.proofs.Common.{AreApart-tail, slice_get, option_map}
+use Rattle.name_list.specs.Names.{AreApart}
 use Rattle.name_list.proofs.ListLaws.{Stands}
 use Rattle.std.specs.FinSet as set
 

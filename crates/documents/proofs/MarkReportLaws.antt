@@ -333,11 +333,11 @@ own-kept get name widget change (first ∷ widgets) keeps stays =
     [ true ↦ alike (change first) (keeps first) (stays first) | false ↦ alike first refl refl ]
 
 -- the one key of a list of one
-one-other : (document : Document) (key other : MarkKey) → AreOthers other (watched document key ∷ []) → key ≢ other
+pub one-other : (document : Document) (key other : MarkKey) → AreOthers other (watched document key ∷ []) → key ≢ other
 one-other document key other others =
     All-head (λ (mark : MarkChange). mark.key ≢ other) (watched document key) [] others
 
-insert-put : (document : Document) (widget : Widget) (place : Place) →
+pub insert-put : (document : Document) (widget : Widget) (place : Place) →
     HasMarksBut (watched document (insert_key widget.name) ∷ []) document (with_insert document widget place)
 insert-put document widget place key others =
     let change : Widget → Widget = λ (other : Widget). record other { insert = place } in

@@ -7,8 +7,7 @@ use Rattle.documents.proofs.Common.{AreAnchored, delete_set, deleted, in_spans, 
 use Rattle.documents.proofs.Common.{State, SpanFits, Span, deleted-kept, deleted-runs, Empty, recording_of}
 use Rattle.documents.proofs.Common.{delete_places, delete_spans, deleted_runs, last_bare, Document, Parts, Widget}
 use Rattle.documents.proofs.Common.{document_of, widget_at, with_bare, without_spans, HasKnownSlots, Stands}
-use Rattle.documents.proofs.Common.{spans_shown, is_idle, slice_range, if◌then◌else◌, edited, deletions}
-use Rattle.edit_ops.specs.Deletions.{AreApart}
+use Rattle.documents.proofs.Common.{spans_shown, is_idle, slice_range, if◌then◌else◌, edited, deletions, AreApart}
 use Rattle.documents.proofs.ChangeLaws.{Leaves, does-changed}
 use Rattle.documents.proofs.KeyedLaws.{keyed-bare}
 use Rattle.documents.proofs.KnownLaws.{known-empty}

@@ -4,14 +4,15 @@ use Rattle.documents.proofs.Common.{List, [], ◌∷◌, ◌++◌, map, length, 
 use Rattle.documents.proofs.Common.{suc, zero, true≢false, filter, Some, All, cases_lt, eq_by_cmp, list_any}
 use Rattle.documents.proofs.Common.{list_any-append, false_from_ne_true, length-map, map-append, append-nil, map-map}
 use Rattle.documents.proofs.Common.{map-changed, changed, changed-same, slice_get, get_or_from_slice_get}
-use Rattle.documents.proofs.Common.{slice_get_within, stands_map, AreApart, AreApart-head, AreApart-tail, Named}
-use Rattle.documents.proofs.Common.{AreTags, Tag, Tags, Cell, Slots, slot_sets, without_slots, with_slots, slotted}
-use Rattle.documents.proofs.Common.{AreBareRuns, IsLostRun, bared, SlotRun, Key, key_cmp, key_pairs, keyed, keys_of}
-use Rattle.documents.proofs.Common.{is_shared, seat_pair, tag_pair, AreSeats, AreDistinct, AreRising, TellsRuns}
-use Rattle.documents.proofs.Common.{characters, in_run, is_turned, TagChange, get_or-drop, get_or-take, slice_range}
-use Rattle.documents.proofs.Common.{length-take-le, length-drop, ◌-◌, drop, nat_cmp, Span, IsBareRun}
-use Rattle.documents.proofs.Common.{get_or-changed_before, get_or-changed_behind, get_or-changed_within, inside}
-use Rattle.documents.proofs.Common.{inside-before, inside-behind, inside-is}
+use Rattle.documents.proofs.Common.{slice_get_within, stands_map, AreApart-head, AreApart-tail, Named, AreTags, Tag}
+use Rattle.documents.proofs.Common.{Tags, Cell, Slots, slot_sets, without_slots, with_slots, slotted, AreBareRuns}
+use Rattle.documents.proofs.Common.{IsLostRun, bared, SlotRun, Key, key_cmp, key_pairs, keyed, keys_of, is_shared}
+use Rattle.documents.proofs.Common.{seat_pair, tag_pair, AreSeats, AreDistinct, AreRising, TellsRuns, characters}
+use Rattle.documents.proofs.Common.{in_run, is_turned, TagChange, get_or-drop, get_or-take, slice_range, length-take-le}
+use Rattle.documents.proofs.Common.{length-drop, ◌-◌, drop, nat_cmp, Span, IsBareRun, get_or-changed_before}
+use Rattle.documents.proofs.Common.{get_or-changed_behind, get_or-changed_within, inside, inside-before, inside-behind}
+use Rattle.documents.proofs.Common.{inside-is}
+use Rattle.name_list.specs.Names.{AreApart}
 use Rattle.documents.proofs.BridgeLaws.{key_tied, keys_of-empty, or_none}
 use Rattle.documents.proofs.KeyRunLaws.{key-run-of, keys_in}
 use Rattle.documents.proofs.LookupLaws.{AreApart-filter}

@@ -11,12 +11,11 @@ use Rattle.documents.proofs.Common.{SpanFits, Span, with_name, is_among, Empty, 
 use Rattle.documents.proofs.Common.{Widget, document_of, widget_at, with_key, with_tag, Key, key_named, key_pairs}
 use Rattle.documents.proofs.Common.{set_key, Stands, key_of, Change, answered, refused, spans_shown, add_spans}
 use Rattle.documents.proofs.Common.{remove_spans, IsTagChange, TellsSpan, TellsSpans, TellsTags, flags_of, Foretells}
-use Rattle.documents.proofs.Common.{TagChange, slice_get, nat_lt, if◌then◌else◌, next-alike, AreGapped}
+use Rattle.documents.proofs.Common.{TagChange, slice_get, nat_lt, if◌then◌else◌, next-alike, AreGapped, AreApart}
 use Rattle.name_list.specs.Names.{names_of}
 use mathlib.Core.Bool.{beq}
 use Rattle.std.proofs.lemmas.List.Edits.{split_between}
 use Rattle.edit_ops.proofs.DeltaLaws.{apart-at}
-use Rattle.edit_ops.specs.Deletions.{AreApart}
 use Rattle.documents.proofs.BridgeLaws.{contains-set_key, key_itself, keys_of-has}
 use Rattle.documents.proofs.KeyedLaws.{keyed-flags, keyed_cell}
 use Rattle.documents.proofs.LookupLaws.{has}

@@ -4,10 +4,10 @@ use Rattle.documents.proofs.Common.{length, map, refl, sym, ap, apâ‚‚, subst, â—
 use Rattle.documents.proofs.Common.{unwrap_or, All, AllByRecursion, length-map, map-id, Cell, Content, Marks}
 use Rattle.documents.proofs.Common.{IsDocument, MarksStand, LimitTable, with_slot, map-map, FitsText, Named, Names}
 use Rattle.documents.proofs.Common.{AreMarks, SharedMarks, AreAnchored, cell_without, new_mark, without_widget}
-use Rattle.documents.proofs.Common.{without_widgets, is_among, Document, Journal, Parts, Widget, document_of, mark_of}
-use Rattle.documents.proofs.Common.{widget_of, AreSeats, HasKnownSlots, HasOwnMarks, IsSeated, IsSound, Stands}
-use Rattle.documents.proofs.Common.{is_window_name, TagSlot, key_pairs, keyed, numbers_gone, seats_left}
-use Rattle.documents.proofs.Common.{IsWellFormedDocument, is_kept}
+use Rattle.documents.proofs.Common.{is_among, Document, Journal, Parts, Widget, document_of, mark_of, widget_of}
+use Rattle.documents.proofs.Common.{AreSeats, HasKnownSlots, HasOwnMarks, IsSeated, IsSound, Stands, is_window_name}
+use Rattle.documents.proofs.Common.{TagSlot, key_pairs, keyed, numbers_gone, seats_left, IsWellFormedDocument, is_kept}
+use Rattle.documents.proofs.Common.{without_widgets}
 use Rattle.documents.proofs.ClearedLaws.{AreSeats-left, gone-apart, gone-low, keyed-unseated, known-unseated}
 use Rattle.documents.proofs.ClearedLaws.{map-filter}
 use Rattle.documents.proofs.MarkLaws.{get-take_other, shared-number, stand-taken}

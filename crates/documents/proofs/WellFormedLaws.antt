@@ -2,13 +2,13 @@
 use Rattle.documents.proofs.Common.{◌≡◌, ℕ, suc, ◌+◌, ◌*◌, ◌≤◌, true, false, List, [], ◌∷◌, length, refl, sym, ap}
 use Rattle.documents.proofs.Common.{subst, ◌∙◌, arith, inl, inr, false_from_ne_true, length-map, bytes_eq-Decides}
 use Rattle.documents.proofs.Common.{AllByRecursion, slice_get, if◌then◌else◌, IfSome, unwrap_or, Cell, IsDocument}
-use Rattle.documents.proofs.Common.{LimitTable, IsLineStart, AreApart, Named, Tag, Tags, AreTags, FitsText, AreAnchored}
-use Rattle.documents.proofs.Common.{is_same, is_among, AreApart-head, AreApart-tail, found_tag, Key, keyed, Document}
-use Rattle.documents.proofs.Common.{Parts, Widget, anchors_at, characters, document_of, whole, widget_of, IsSeated}
-use Rattle.documents.proofs.Common.{IsSound, is_window_name, belongs, HasItsKeys, IsPlaced, IsWellFormedDocument}
-use Rattle.documents.proofs.Common.{window_names, ◌&&◌, not, map, None, Some, names_of}
+use Rattle.documents.proofs.Common.{LimitTable, IsLineStart, Named, Tag, Tags, AreTags, FitsText, AreAnchored, is_same}
+use Rattle.documents.proofs.Common.{is_among, AreApart-head, AreApart-tail, found_tag, Key, keyed, Document, Parts}
+use Rattle.documents.proofs.Common.{Widget, anchors_at, characters, document_of, whole, widget_of, IsSeated, IsSound}
+use Rattle.documents.proofs.Common.{is_window_name, belongs, HasItsKeys, IsPlaced, IsWellFormedDocument, window_names}
+use Rattle.documents.proofs.Common.{◌&&◌, not, map, None, Some, names_of}
+use Rattle.name_list.specs.Names.{AreApart, names_of as names_of_seats}
 use Rattle.std.specs.List.{IsDistinct}
-use Rattle.name_list.specs.Names.{names_of as names_of_seats}
 use Rattle.mark_table.specs.SharedMarks.{names_of as names_of_marks}
 use Rattle.documents.specs.Documents.{sel}
 use Rattle.documents.proofs.BridgeLaws.{is_key_of, keys_of-belongs}

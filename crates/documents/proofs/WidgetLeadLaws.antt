@@ -19,7 +19,7 @@ ordered-spans start len [] = tt
 ordered-spans start len (from ∷ []) = (omega arith, tt)
 ordered-spans start len (from ∷ to ∷ places) = (omega arith, ordered-spans start len places)
 
-spans-inside : (document : Document) (widget : Widget) (places : List ℕ) → IsActive document widget
+pub spans-inside : (document : Document) (widget : Widget) (places : List ℕ) → IsActive document widget
     → All (λ place. place ≤ length (shown document widget)) places →
     All (λ (span : Span). span.to ≤ view_end document widget)
     (spans_shown document widget places)

@@ -8,11 +8,14 @@ use Rattle.edit_ops.specs.Told.{AreFalling, Tells}
 use Rattle.edit_ops.specs.declared.changes.TextChange.{TextChange}
 use Rattle.command_effects.specs.Words.{is_same, literal}
 use Rattle.documents.specs.Documents.{characters, Document, SharedMark, Widget}
+use Rattle.documents.specs.Promise.{Change}
+use Rattle.documents.specs.Told.{TellsCells}
 use Rattle.documents.specs.Widgets.{widget_named}
 use Rattle.documents.specs.declared.mark_lists.MarkChange.{MarkChange}
 use Rattle.documents.specs.declared.mark_lists.MarkKey.{MarkKey}
 use Rattle.documents.specs.declared.mark_lists.MarkKind.{MarkKind}
 use Rattle.documents.specs.declared.mark_lists.MarkKind.TheVariants.{Insert, Current, Shared}
+use Rattle.documents.specs.declared.told.EditTold.{EditTold}
 
 -- the marks of a document: two of each widget, by the widget's name, and the shared ones, by their own
 abbrev pub place_of_kind : MarkKind → List ℕ → Document → Option Place
@@ -62,6 +65,13 @@ pub record TellsMarks (changes : List TextChange) (old new : Document) (marks : 
 -- every mark but those of a list is where it was
 abbrev pub HasMarksBut : List MarkChange → Document → Document → Type 0
 HasMarksBut marks old new = (key : MarkKey) → AreOthers key marks → mark_at new key ≡ mark_at old key
+
+-- The changes of the text in any report of a command take each mark of the document, but those of a list, to where the
+-- command leaves it.
+abbrev pub TakesMarksBut : List MarkChange → Document → Change → Type 0
+TakesMarksBut marks document change =
+    (told : EditTold) → TellsCells change.edits document.cells change.document.cells told
+    → (key : MarkKey) → AreOthers key marks → mark_at change.document key ≡ mark_carried told.changes document key
 
 -- ---- marks that a command may displace
 

@@ -18,7 +18,7 @@ TellsGone seats table cells names told =
     TellsTags told (keyed (key_pairs seats table.tags) cells)
     (map (without_tags names) (keyed (key_pairs seats table.tags) cells))
 
--- that is told, by changes of their keys alone that leave gaps, and which slots they have was seen
+-- the report of that, by changes of their keys alone that leave gaps, and which slots they have was seen
 pub record AreGone (seats : List Named) (table : Tags) (cells : List Cell) (names : List (List ℕ)) (seen : Slots)
     (told : List TagChange) : Type 0 where
   pub slots : (name : List ℕ) (slot : ℕ) → slot_of name table.tags ≡ Some slot → slot ≢ 0 →

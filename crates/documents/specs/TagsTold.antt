@@ -65,7 +65,7 @@ abbrev pub AreGapped : List TagChange → Type 0
 AreGapped [] = ⊤
 AreGapped (change ∷ changes) = All (LeavesGap change) changes × AreGapped changes
 
--- ---- how they are told
+-- ---- how they are reported
 
 -- Behind what is told already it is told that a key is put on the characters from one offset to another, or taken off
 -- them; which of them have it is known.
@@ -116,7 +116,7 @@ abbrev pub in_key_run : Key → List (ℕ × Key) → List SlotRun → ℕ → B
 in_key_run key pairs runs at =
     list_any (λ (pair : ℕ × Key). eq_by_cmp key_cmp key pair.1 && in_run pair.0 runs at) pairs
 
--- runs that aren't empty, from an offset on, each behind the one before it
+-- runs that aren't empty, from an offset on, each after the one before it
 abbrev pub AreRising : ℕ → List SlotRun → Type 0
 AreRising at [] = ⊤
 AreRising at (run ∷ runs) = (at ≤ run.from) × (run.from < run.to) × AreRising run.to runs

@@ -1,5 +1,5 @@
 ghost use Rattle.std.specs.Prelude.{◌≡◌, Some, ◌+◌, ◌-◌, ◌<◌, ◌≤◌, length, chars, option_map, nat_lt, nat_le, Ok, Err};
-ghost use Rattle.std.specs.Prelude.{[], IfOk};
+ghost use Rattle.std.specs.Prelude.{IfOk};
 ghost use Rattle.std.specs.List.{All};
 ghost use Rattle.text_model.specs.LimitTable.{LimitTable};
 ghost use Rattle.documents.specs.Documents.{widget_at};
@@ -143,7 +143,6 @@ impl<S: TextStore> Document<S> {
         ensures told { IsTold caller.now.follows
             (add_spans caller.now.limits.now self.old (widget_at self.old caller.now.seat) (chars name.now)
             places.now) self.old self.new result }
-        ensures still { IfOk result (λ told. told.changes ≡ []) }
     {
         if is_one_too_many(caller.limits, &self.tags, name) {
             return Err(Fault::TooManyTags);
@@ -184,7 +183,6 @@ impl<S: TextStore> Document<S> {
         ensures told { IsTold caller.now.follows
             (remove_spans self.old (widget_at self.old caller.now.seat) (chars name.now) places.now)
             self.old self.new result }
-        ensures still { IfOk result (λ told. told.changes ≡ []) }
     {
         let number = self.seats.number(caller.seat);
         let Some(slot) = find_tag(&self.tags, TagSlot(number), name) else {
@@ -202,7 +200,6 @@ impl<S: TextStore> Document<S> {
         ensures does { (limits : LimitTable) → Does limits self.old self.new (reply_of result)
             (tag_delete self.old (texts_of names.now)) }
         ensures told { IsTold caller.now.follows (tag_delete self.old (texts_of names.now)) self.old self.new result }
-        ensures still { IfOk result (λ told. told.changes ≡ []) }
     {
         let told = self.told_tag_delete(caller, names)?;
         let slots = deleted_slots(self.alloc, &self.tags, names)?;

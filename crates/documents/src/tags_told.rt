@@ -202,9 +202,8 @@ impl<S: TextStore> Document<S> {
         caller: &Caller<'_>,
         names: &[String],
     ) -> Result<EditTold, AllocError>
-        ensures told { caller.now.follows ≡ true → IfOk result (λ told.
+        ensures { caller.now.follows ≡ true → IfOk result (λ told.
             Foretells self.now (tag_delete self.now (texts_of names.now)) told) }
-        ensures still { IfOk result (λ told. told.changes ≡ []) }
     {
         if !caller.follows {
             return Ok(EditTold::nothing(self.alloc));

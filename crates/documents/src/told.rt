@@ -1,6 +1,7 @@
 //! Reports of commands that edit the text.
 
 ghost use Rattle.std.specs.Prelude.{◌≡◌, ◌≤◌, ◌<◌, ◌^◌, true, length, [], List, IfOk, IfSome, OnErr, OnOk};
+ghost use Rattle.std.specs.Prelude.{box_value};
 ghost use Rattle.tag_table.specs.Tags.{AreTags};
 ghost use Rattle.text_model.specs.declared.cells.Cell.{Cell};
 ghost use Rattle.text_model.specs.declared.limits.TheConstants.Limits.{MOST_WIDGETS};
@@ -54,28 +55,27 @@ fn report<S: TextStore>(
     seats: &NameList,
     tags: &TagTable,
     store: &S,
-    delta: Option<Delta>,
+    delta: Option<Box<Delta>>,
 ) -> Result<EditTold, AllocError>
     requires limit { seats.now.limit ≡ MOST_WIDGETS }
     requires seated { AreSeats seats.now.entries }
     requires sound { AreTags tags.now }
     requires short { length (S.content store.now).cells ≤ 2 ^ 60 }
-    requires stand { IfSome delta (λ delta. AreHunks 0 (length (S.content store.now).cells) delta.hunks.items) }
+    requires stand { IfSome delta
+        (λ delta. AreHunks 0 (length (S.content store.now).cells) (box_value delta).hunks.items) }
     ensures { IfOk result (λ told. (actions : List Action) (cells : List Cell) →
         KnowsDelta true actions (S.content store.now).cells cells delta →
         let pairs = key_pairs seats.now.entries tags.now.tags in
         TellsCells actions (keyed pairs (S.content store.now).cells) (keyed pairs cells) told) }
 {
-    let Some(
-        Delta {
-            hunks,
-            lost,
-            gained,
-        },
-    ) = delta
-    else {
+    let Some(delta) = delta else {
         return Ok(EditTold::nothing(alloc));
     };
+    let Delta {
+        hunks,
+        lost,
+        gained,
+    } = Box::into_inner(delta);
     let mut list = TagList::new(alloc);
     if let Some(run) = lost {
         let runs = [Box::into_inner(run)];
@@ -96,14 +96,14 @@ pub fn carry_out<S: TextStore>(
     seats: &NameList,
     tags: &TagTable,
     text: &mut EditedText<S>,
-    plan: Plan<S>,
+    mut plan: Plan<S>,
 ) -> Result<EditTold, AllocError>
     requires limit { seats.now.limit ≡ MOST_WIDGETS }
     requires seated { AreSeats seats.now.entries }
     requires sound { AreTags tags.now }
     requires short { length (S.content text.old.store).cells ≤ 2 ^ 60 }
     requires stand { IfSome plan.delta
-        (λ delta. AreHunks 0 (length (S.content text.old.store).cells) delta.hunks.items) }
+        (λ delta. AreHunks 0 (length (S.content text.old.store).cells) (box_value delta).hunks.items) }
     requires ready { S.ready text.old.store plan.prepared }
     requires room { HasRoomFor plan.effects text.old.history }
     ensures ok { OnOk result (state_in S.content text.new ≡ planned plan.effects
@@ -115,7 +115,6 @@ pub fn carry_out<S: TextStore>(
         TellsCells actions (keyed pairs (S.content text.old.store).cells) (keyed pairs (S.content text.new.store).cells)
         told) }
 {
-    let mut plan = plan;
     let told = report(alloc, seats, tags, &text.store, plan.delta.take())?;
     commit(plan, text);
     Ok(told)

@@ -31,6 +31,7 @@ pub use Rattle.edit_ops.specs.Told.{Tells, after_actions, after_change, after_ch
 pub use Rattle.edit_ops.specs.Told.{end_of, hunk_change, hunk_changes, insertion, line_front, patched, patched_by}
 pub use Rattle.edit_ops.specs.Told.{removed_all, replacing, spot_at, taking, taking_out, units_of}
 pub use Rattle.edit_ops.specs.declared.anchors.Anchors.{Anchors}
+pub use Rattle.edit_ops.specs.declared.changes.TextChange.{TextChange}
 pub use Rattle.edit_ops.specs.declared.deltas.Delta.{Delta}
 pub use Rattle.edit_ops.specs.declared.hunks.Hunk.{Hunk}
 pub use Rattle.edit_ops.specs.declared.orders.Reach.{Reach}
@@ -50,7 +51,7 @@ pub use Rattle.std.proofs.lemmas.Grind.{common_steps, flat_map-append}
 pub use Rattle.std.proofs.lemmas.List.{drop-append-le, drop-map, drop_all, drop_at, drop_more, get_or-map}
 pub use Rattle.std.proofs.lemmas.List.{get_or-reverse, get_or_default, length-map, length-replicate, length-reverse}
 pub use Rattle.std.proofs.lemmas.List.{length-take-le, length_push, map-append, map-id, nil_from_length, reverse-append}
-pub use Rattle.std.proofs.lemmas.List.{same_lists, take-append-le, take-take, take_at, take_more}
+pub use Rattle.std.proofs.lemmas.List.{reverse-reverse, same_lists, take-append-le, take-take, take_at, take_more}
 pub use Rattle.std.proofs.lemmas.List.Elements.{All-append, All-cons, All-get_or, All-head, All-map, All-more, All-nil}
 pub use Rattle.std.proofs.lemmas.List.Elements.{All-push, All-tail}
 pub use Rattle.std.proofs.lemmas.List.Folds.{drop_split, list_any-append}
@@ -63,7 +64,7 @@ pub use Rattle.std.specs.Char.{IsScalar, len_utf8}
 pub use Rattle.std.specs.Cmp.{nat_cmp_total}
 pub use Rattle.std.specs.List.{All, remove}
 pub use Rattle.std.specs.Option.{is_none, option_to_list}
-pub use Rattle.std.specs.Prelude.{if◌then◌else◌, ⊤, IfSome, IsSome, box_value, bytes_eq, chars, encode_utf8}
+pub use Rattle.std.specs.Prelude.{if◌then◌else◌, ⊤, ◌≢◌, Box, IfSome, IsSome, box_value, bytes_eq, chars, encode_utf8}
 pub use Rattle.std.specs.Prelude.{encode_utf8_all, flat_map, nat_le, nat_lt, not, option_and_then, option_map}
 pub use Rattle.std.specs.Prelude.{slice_get, slice_range, string_bytes, sum_by, unwrap_or}
 pub use Rattle.text_cursor.proofs.AroundLaws.{characters-of, length-characters, length-slot_sets, line-append-same}

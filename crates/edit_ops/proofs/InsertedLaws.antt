@@ -8,7 +8,8 @@ use Rattle.edit_ops.proofs.Common.{AreBareRuns, SlottedText, total, ◌==◌, tr
 use Rattle.edit_ops.proofs.Common.{All-append, after_step, runs_in, runs_of, text_in, text_of, IsShort, AreInsertions}
 use Rattle.edit_ops.proofs.Common.{GoesOn, PutInPlace, removal_steps, pieces_text, KnowsInserted, bared, hunks_made}
 use Rattle.edit_ops.proofs.Common.{lost_run, IsLostRun, KnowsDelta, Delta, Outline, MarkNo, Place, length-removed, Bool}
-use Rattle.edit_ops.proofs.Common.{Option, None, Some, Action, AreHunksOf, replacing, patched_by, IfSome}
+use Rattle.edit_ops.proofs.Common.{Option, None, Some, Action, AreHunksOf, replacing, patched_by, IfSome, Box}
+use Rattle.edit_ops.proofs.Common.{box_value}
 use Rattle.std.proofs.lemmas.List.Concat.{length-flat_map}
 use Rattle.edit_ops.proofs.HunkLaws.{replacing-is}
 use Rattle.edit_ops.proofs.SlotRunLaws.{bare-append, changed-middle, runs-lower, slice-middle, slots-of, without}
@@ -221,37 +222,39 @@ put-unmarked content {before} {outline} before_is out ordered within short on ma
 
 -- ---- the delta
 
-known-put : {from to : ℕ} {pieces : List SlottedText} {old new : List Cell} {steps : List Step} (follows : Bool)
-    (actions : List Action) (delta : Option Delta) → from ≤ to → to ≤ length old
+known-put : {Z : Type 0} {from to : ℕ} {pieces : List SlottedText} {old new : List Cell} {steps : List Step}
+    (follows : Bool) (actions : List Action) (delta : Option (Box Delta Z)) → from ≤ to → to ≤ length old
     → AreHunksOf actions (length old) (replacing from to (pieces_text pieces)) → PutInPlace from to pieces old new steps
     → KnowsInserted follows from to steps delta → KnowsDelta follows actions old new delta
 known-put follows actions None ordered within of put known = known
-known-put {from} {to} {pieces} {old} follows actions (Some delta) ordered within of put known =
+known-put {Z} {from} {to} {pieces} {old} follows actions (Some boxed) ordered within of put known =
     let text = pieces_text pieces in
-    let hunks : delta.hunks.items ≡ replacing from to text = known.1 ∙ ap (replacing from to) put.text in
+    let delta : Delta = box_value boxed in
+    let is = known.1 in
+    let hunks : delta.hunks.items ≡ replacing from to text = is.hunks ∙ ap (replacing from to) put.text in
     let base : bared (lost_run delta) (hunks_made delta old) ≡ inserted from (bare_cells text) (removed from to old) =
-    ap (λ lost. bared lost (hunks_made delta old)) known.2
+    ap (λ lost. bared lost (hunks_made delta old)) is.lost
     ∙ ap (λ hs. patched_by bare_cells 0 hs old) hunks
     ∙ replacing-is bare_cells from to text old refl ordered within in (
       known.0,
       record {
         exact = subst (AreHunksOf actions (length old)) (sym hunks) of;
-        lost = subst (IsLostRun (hunks_made delta old)) (sym known.2) tt;
-        either = subst (λ lost. IfSome lost (λ _. delta.gained.items ≡ [])) (sym known.2) tt;
+        lost = subst (IsLostRun (hunks_made delta old)) (sym is.lost) tt;
+        either = subst (λ lost. IfSome lost (λ _. delta.gained.items ≡ [])) (sym is.lost) tt;
         bare = subst (AreBareRuns 0 delta.gained.items) (sym base)
-            (subst (λ runs. AreBareRuns 0 runs (inserted from (bare_cells text) (removed from to old))) (sym known.3)
+            (subst (λ runs. AreBareRuns 0 runs (inserted from (bare_cells text) (removed from to old))) (sym is.gained)
             put.bare);
-        cells = put.cells ∙ ap₂ slotted (sym known.3) (sym base);
+        cells = put.cells ∙ ap₂ slotted (sym is.gained) (sym base);
       },
     )
 
 -- of a plan of these steps
-pub known-left : {from to : ℕ} {pieces : List SlottedText} {old : List Cell} {steps : List Step} (follows : Bool)
-    (actions : List Action) {delta made : Option Delta} {left outcome : Content} → from ≤ to → to ≤ length old
+pub known-left : {Z : Type 0} {from to : ℕ} {pieces : List SlottedText} {old : List Cell} {steps : List Step} (follows : Bool)
+    (actions : List Action) {delta made : Option (Box Delta Z)} {left outcome : Content} → from ≤ to → to ≤ length old
     → AreHunksOf actions (length old) (replacing from to (pieces_text pieces))
     → PutInPlace from to pieces old left.cells steps → KnowsInserted follows from to steps delta → made ≡ delta
     → outcome ≡ left → KnowsDelta follows actions old outcome.cells made
-known-left {from} {to} {pieces} {old} follows actions {delta} {made} {left} {outcome} ordered within of put known made_is outcome_is =
+known-left {Z} {from} {to} {pieces} {old} follows actions {delta} {made} {left} {outcome} ordered within of put known made_is outcome_is =
     subst (λ (content : Content). KnowsDelta follows actions old content.cells made) (sym outcome_is)
     (subst (KnowsDelta follows actions old left.cells) (sym made_is)
     (known-put follows actions delta ordered within of put known))

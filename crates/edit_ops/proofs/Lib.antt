@@ -6,6 +6,8 @@ pub mod CoverLaws
 pub mod CursorTextLaws
 pub mod DeleteLaws
 pub mod DeltaLaws
+pub mod DeterminedLaws
+pub mod ExactShapeLaws
 pub mod HunkLaws
 pub mod InsertLaws
 pub mod InsertedLaws

@@ -87,13 +87,18 @@ end-newline c text is =
     ∙ ap (λ n. first_of (n + 1)) (counted ∙ ap (λ n. suc n) (ap lines (sym (take_all (length text) text (omega arith))))
     ∙ omega arith)
 
+-- the bytes of a text with one character more
+pub bytes-push : (front : List ℕ) (c : ℕ)
+    → length (encode_utf8_all (front ++ c ∷ [])) ≡ length (encode_utf8_all front) + length (encode_utf8 c)
+bytes-push front c =
+    ap length (encodes-append front (c ∷ []))
+    ∙ length-append (encode_utf8_all front) (encode_utf8_all (c ∷ []))
+    ∙ ap (λ xs. length (encode_utf8_all front) + length xs) (append-nil (encode_utf8 c))
+
 spot-push : (line c : ℕ) (front : List ℕ) → spot_of line (front ++ c ∷ []) ≡ grown c (spot_of line front)
 spot-push line c front =
     let column : length (front ++ c ∷ []) ≡ length front + 1 = length-append front (c ∷ []) in
-    let bytes : length (encode_utf8_all (front ++ c ∷ [])) ≡ length (encode_utf8_all front) + length (encode_utf8 c) =
-    ap length (encodes-append front (c ∷ []))
-    ∙ length-append (encode_utf8_all front) (encode_utf8_all (c ∷ []))
-    ∙ ap (λ xs. length (encode_utf8_all front) + length xs) (append-nil (encode_utf8 c)) in
+    let bytes = bytes-push front c in
     let units : sum_by units_of (front ++ c ∷ []) ≡ sum_by units_of front + units_of c =
     sum_by_push units_of front c in
     λ i. record { line = line + 1; column = column i; bytes = bytes i; units = units i }

@@ -5,8 +5,7 @@ use Rattle.edit_ops.proofs.Common.{length-take-le, reverse-append, take_at, take
 use Rattle.edit_ops.proofs.Common.{Cell, characters, Hunk, SpotWalk, spot_at, end_of, after_change, after_change_by}
 use Rattle.edit_ops.proofs.Common.{after_changes_by, hunk_change, hunk_changes, patched, patched_by, AreHunks, IsChange}
 use Rattle.edit_ops.proofs.Common.{IsHunk, Tells, reverse, length-append, length-characters, AreExact, AreFalling}
-use Rattle.edit_ops.proofs.Common.{AreHunksOf, AreSeparate, Action, ⊤, ◌<◌}
-use Rattle.edit_ops.specs.declared.changes.TextChange.{TextChange}
+use Rattle.edit_ops.proofs.Common.{AreHunksOf, AreSeparate, Action, ⊤, ◌<◌, TextChange}
 use Rattle.edit_ops.proofs.SpotLaws.{spot-end, spot-same}
 
 -- ---- one hunk

@@ -1,6 +1,6 @@
 -- What an edit does to the cells of a text, as its plan knows it.
 use Rattle.std.specs.Prelude.{◌≡◌, ◌+◌, Bool, true, false, List, [], length, slice_get, Option, None, Some, ⊤}
-use Rattle.std.specs.Prelude.{box_value, option_map, IfSome}
+use Rattle.std.specs.Prelude.{box_value, option_map, Box, IfSome}
 use Rattle.text_model.specs.declared.cells.Cell.{Cell}
 use Rattle.text_model.specs.Content.{slot_sets}
 use Rattle.text_model.specs.Splices.{changed}
@@ -38,7 +38,8 @@ pub record IsDelta (actions : List Action) (old new : List Cell) (delta : Delta)
   pub bare : AreBareRuns 0 delta.gained.items (bared (lost_run delta) (hunks_made delta old))
   pub cells : new ≡ slotted delta.gained.items (bared (lost_run delta) (hunks_made delta old))
 
--- what a plan knows of this, where its caller follows
-abbrev pub KnowsDelta : Bool → List Action → List Cell → List Cell → Option Delta → Type 0
-KnowsDelta follows actions old new None = follows ≡ false
-KnowsDelta follows actions old new (Some delta) = (follows ≡ true) × IsDelta actions old new delta
+module _ {Z : Type 0} where
+  -- what a plan knows of this, where its caller follows
+  abbrev pub KnowsDelta : Bool → List Action → List Cell → List Cell → Option (Box Delta Z) → Type 0
+  KnowsDelta follows actions old new None = follows ≡ false
+  KnowsDelta follows actions old new (Some delta) = (follows ≡ true) × IsDelta actions old new (box_value delta)

@@ -1,6 +1,6 @@
 -- What the steps of an edit insert, in place of some characters of the text.
 use Rattle.std.specs.Prelude.{◌≡◌, ◌<◌, ℕ, ◌+◌, ◌^◌, Bool, true, false, List, [], ◌∷◌, ◌++◌, length, ⊤, Option, None}
-use Rattle.std.specs.Prelude.{Some, ◌==◌, if◌then◌else◌}
+use Rattle.std.specs.Prelude.{Some, Box, box_value, ◌==◌, if◌then◌else◌}
 use Rattle.std.specs.List.{flat_map, All}
 use Rattle.text_model.specs.declared.cells.Cell.{Cell}
 use Rattle.text_model.specs.declared.edits.Step.{Step}
@@ -59,12 +59,17 @@ pub record PutInPlace (from to : ℕ) (pieces : List SlottedText) (old new : Lis
   pub bare : AreBareRuns 0 (runs_in steps) (inserted from (bare_cells (pieces_text pieces)) (removed from to old))
   pub cells : new ≡ slotted (runs_in steps) (inserted from (bare_cells (pieces_text pieces)) (removed from to old))
 
--- the delta of such steps, where the caller follows
-abbrev pub KnowsInserted : Bool → ℕ → ℕ → List Step → Option Delta → Type 0
-KnowsInserted follows from to steps None = follows ≡ false
-KnowsInserted follows from to steps (Some delta) =
-    (follows ≡ true) × (delta.hunks.items ≡ replacing from to (text_in steps)) × (lost_run delta ≡ None)
-    × (delta.gained.items ≡ runs_in steps)
+-- the delta of steps that insert texts in place of the characters from one offset to another
+pub record IsInserted (from to : ℕ) (steps : List Step) (delta : Delta) : Type 0 where
+  pub hunks : delta.hunks.items ≡ replacing from to (text_in steps)
+  pub lost : lost_run delta ≡ None
+  pub gained : delta.gained.items ≡ runs_in steps
+
+module _ {Z : Type 0} where
+  -- what is known of it, where the caller follows
+  abbrev pub KnowsInserted : Bool → ℕ → ℕ → List Step → Option (Box Delta Z) → Type 0
+  KnowsInserted follows from to steps None = follows ≡ false
+  KnowsInserted follows from to steps (Some delta) = (follows ≡ true) × IsInserted from to steps (box_value delta)
 
 -- the steps that delete the characters from one offset to another
 abbrev pub removal_steps : ℕ → ℕ → List Step

@@ -177,7 +177,7 @@ fn deletion_delta<S: TextStore>(
     runs: Vec<Span>,
     end: usize,
     is_bared: bool,
-) -> Result<Option<Delta>, AllocError>
+) -> Result<Option<Box<Delta>>, AllocError>
     requires some { 0 < end }
     requires within { end ≤ length (S.content store.now).cells }
     requires apart { AreApart end runs.items }
@@ -195,11 +195,12 @@ fn deletion_delta<S: TextStore>(
     } else {
         None
     };
-    Ok(Some(Delta {
+    let delta = Delta {
         hunks: take_spans(rules.alloc, runs)?,
         lost,
         gained: Vec::new(rules.alloc),
-    }))
+    };
+    Ok(Some(Box::new(rules.alloc, delta)?))
 }
 
 /// The edit that deletes spans of what a widget shows, and its delta, if the caller follows.
@@ -209,7 +210,7 @@ fn outline_delete<S: TextStore>(
     start: usize,
     end: usize,
     spans: &[Span],
-) -> Result<(Outline, Option<Delta>), AllocError>
+) -> Result<(Outline, Option<Box<Delta>>), AllocError>
     requires shows { start < end }
     requires within { end ≤ length (S.content text.now.store).cells }
     requires spans { All (λ span. span.to ≤ end) spans.now }

@@ -63,7 +63,7 @@ impl Outline {
         follows: bool,
         from: usize,
         to: usize,
-    ) -> Result<Option<Delta>, AllocError>
+    ) -> Result<Option<Box<Delta>>, AllocError>
         requires { All IsShort self.now.steps }
         ensures { IfOk result (KnowsInserted follows from to self.now.steps) }
     {
@@ -73,10 +73,11 @@ impl Outline {
         let Inserted { text, runs } = inserted_by(self.alloc, self.steps.as_slice())?;
         let mut hunks = Vec::with_capacity(self.alloc, 1)?;
         push_replacement(&mut hunks, from, to, Text::new(text))?;
-        Ok(Some(Delta {
+        let delta = Delta {
             hunks,
             lost: None,
             gained: runs,
-        }))
+        };
+        Ok(Some(Box::new(self.alloc, delta)?))
     }
 }

@@ -1,6 +1,7 @@
 //! The delta of a text that is made of parts of an old one and of new texts.
 
 ghost use Rattle.std.specs.Prelude.{◌≡◌, ◌<◌, ◌≤◌, ◌^◌, ◌++◌, ◌∷◌, [], List, length, chars, string_bytes, IfOk, OnOk};
+ghost use Rattle.std.specs.Prelude.{encode_utf8_all, min};
 ghost use Rattle.std.specs.List.{All};
 ghost use Rattle.edit_ops.specs.Deltas.{KnowsDelta};
 ghost use Rattle.edit_ops.specs.Replays.{Leads};
@@ -28,10 +29,22 @@ fn push_char(text: &mut String, character: char) -> Result<(), AllocError>
     Ok(())
 }
 
-/// Adds characters to a text.
+/// Returns the number of bytes that characters take in UTF-8; `usize::MAX` if that is smaller.
+fn byte_count(characters: &[char]) -> usize
+    ensures { result ≡ min usize.MAX (length (encode_utf8_all characters.now)) }
+{
+    let mut count: usize = 0;
+    for character in characters {
+        count = count.saturating_add(character.len_utf8());
+    }
+    count
+}
+
+/// Adds characters to a text, which asks for room once.
 fn push_characters(text: &mut String, characters: &[char]) -> Result<(), AllocError>
     ensures { OnOk result (chars (string_bytes text.new) ≡ chars (string_bytes text.old) ++ characters.now) }
 {
+    text.reserve(byte_count(characters))?;
     for character in characters {
         push_char(text, *character)?;
     }
@@ -128,7 +141,11 @@ fn runs_of(alloc: Global, parts: &TextParts) -> Result<Vec<SlotRun>, AllocError>
 }
 
 /// Returns the delta of an edit if its caller follows. The cursor is in the text that the edit makes.
-pub fn delta_of(alloc: Global, cursor: Cursor, follows: bool) -> Result<Option<Delta>, AllocError>
+pub fn delta_of(
+    alloc: Global,
+    cursor: Cursor,
+    follows: bool,
+) -> Result<Option<Box<Delta>>, AllocError>
     requires cursor { IsCursor cursor }
     requires short { cursor.len < 2 ^ 64 }
     ensures { IfOk result (λ delta. (actions : List Action) (old : List Cell) → length old ≡ cursor.old_len →
@@ -141,9 +158,10 @@ pub fn delta_of(alloc: Global, cursor: Cursor, follows: bool) -> Result<Option<D
     let parts = cursor.into_parts(alloc)?;
     let hunks = hunks_of(alloc, &parts, len)?;
     let gained = runs_of(alloc, &parts)?;
-    Ok(Some(Delta {
+    let delta = Delta {
         hunks,
         lost: None,
         gained,
-    }))
+    };
+    Ok(Some(Box::new(alloc, delta)?))
 }

@@ -45,7 +45,7 @@ pub struct Plan<S: TextStore> {
     // none where no character comes or goes, as where spans are tagged
     effects: Option<Effects>,
     /// What the plan does to the text and its tags, if the caller follows these.
-    pub delta: Option<Delta>,
+    pub delta: Option<Box<Delta>>,
 }
 
 /// Notes actions of an edit of a kind, for which there is room.
@@ -87,7 +87,7 @@ pub fn prepare_steps<S: TextStore>(
     text: &mut EditedText<S>,
     steps: StepList,
     effects: Option<Effects>,
-    delta: Option<Delta>,
+    delta: Option<Box<Delta>>,
 ) -> Result<Plan<S>, AllocError>
     requires { Fits steps (S.content text.old.store) }
     ensures same { IsUnchanged S.content text.old text.new }
@@ -112,7 +112,7 @@ pub fn prepare<S: TextStore>(
     outline: Outline,
     kind: EditKind,
     recording: Recording,
-    delta: Option<Delta>,
+    delta: Option<Box<Delta>>,
 ) -> Result<Plan<S>, AllocError>
     requires { Fits outline.steps (S.content text.old.store) }
     ensures same { IsUnchanged S.content text.old text.new }

@@ -214,7 +214,7 @@ fn outline_group<S: TextStore>(
     group: &Group<'_>,
     back: bool,
     mark: MarkNo,
-) -> Result<(Outline, Option<Delta>), AllocError>
+) -> Result<(Outline, Option<Box<Delta>>), AllocError>
     requires stand { All (AnchorsStand (length (S.content text.now.store).cells)) text.now.anchors.items }
     requires fits { IsSome (repeated_group rules.now.limits.now.chars (replays back group.now)
         (characters (S.content text.now.store).cells)) }
@@ -246,7 +246,7 @@ fn outline_reversal<S: TextStore>(
     group: Option<Group<'_>>,
     back: bool,
     mark: MarkNo,
-) -> Result<(Outline, Option<Delta>), AllocError>
+) -> Result<(Outline, Option<Box<Delta>>), AllocError>
     requires stand { All (AnchorsStand (length (S.content text.now.store).cells)) text.now.anchors.items }
     requires fits { IfSome group (λ group. IsSome (repeated_group rules.now.limits.now.chars (replays back group)
         (characters (S.content text.now.store).cells))) }
@@ -270,7 +270,7 @@ fn outline_reversal<S: TextStore>(
 fn plan_reversal<S: TextStore>(
     text: &mut EditedText<S>,
     outline: Outline,
-    delta: Option<Delta>,
+    delta: Option<Box<Delta>>,
     notes: Notes,
 ) -> Result<Plan<S>, AllocError>
     requires { Fits outline.steps (S.content text.old.store) }

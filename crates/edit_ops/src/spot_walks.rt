@@ -1,3 +1,5 @@
+//! Spots of offsets, which are found in the order of the text.
+
 ghost use Rattle.std.specs.Prelude.{◌≡◌, ◌≤◌, ◌^◌, length, IfOk};
 ghost use Rattle.text_model.specs.Content.{characters};
 ghost use Rattle.edit_ops.specs.Told.{spot_at};
@@ -5,6 +7,9 @@ ghost use Rattle.edit_ops.specs.Told.{spot_at};
 use crate::spots::Spot;
 use std::alloc::AllocError;
 use text_model::TextStore;
+
+/// So many characters are copied at a time to be looked at, at most.
+const BLOCK: usize = 4096;
 
 /// A place of a text, as an offset and as its spot, from which the places behind it are found: in one line each
 /// character is looked at once.
@@ -25,8 +30,8 @@ impl SpotWalk {
         }
     }
 
-    /// At an offset from this one on, past each character in between.
-    fn along<S: TextStore>(self, store: &S, offset: usize) -> Result<SpotWalk, AllocError>
+    /// At an offset from this one on, past each character in between, of which it takes a copy.
+    fn past<S: TextStore>(self, store: &S, offset: usize) -> Result<SpotWalk, AllocError>
         requires stands { self.spot ≡ spot_at (characters (S.content store.now).cells) self.offset }
         requires ordered { self.offset ≤ offset }
         requires within { offset ≤ length (S.content store.now).cells }
@@ -39,6 +44,23 @@ impl SpotWalk {
             offset,
             spot: self.spot.behind(between.as_str()),
         })
+    }
+
+    /// At an offset from this one on, past each character in between. It takes copies of a block each.
+    fn along<S: TextStore>(self, store: &S, offset: usize) -> Result<SpotWalk, AllocError>
+        requires stands { self.spot ≡ spot_at (characters (S.content store.now).cells) self.offset }
+        requires ordered { self.offset ≤ offset }
+        requires within { offset ≤ length (S.content store.now).cells }
+        requires short { length (S.content store.now).cells ≤ 2 ^ 60 }
+        ensures { IfOk result (λ there. there
+            ≡ record { offset = offset; spot = spot_at (characters (S.content store.now).cells) offset }) }
+    {
+        let mut walk = self;
+        while walk.offset < offset {
+            let end = offset.min(walk.offset + BLOCK);
+            walk = walk.past(store, end)?;
+        }
+        Ok(walk)
     }
 
     /// At an offset from this one on.

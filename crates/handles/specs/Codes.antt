@@ -60,7 +60,7 @@ told_code (Some true) = pos 1
 told_code (Some false) = pos 0
 told_code None = negsuc 0
 
--- the offset of a place, or the greatest number where there is none
+-- the offset of a place, or the maximum where there is none
 abbrev pub offset_code : Option Place → ℕ
 offset_code None = 18446744073709551615
 offset_code (Some place) = place.offset

@@ -33,7 +33,7 @@ use Rattle.handles.specs.Words.{cut, words_at, AreLengths, AreTexts}
 abbrev pub untold : State → State
 untold old = record old { told = nothing_told }
 
--- what is told of a command of these words that made a world of another; of marks nothing, unless they are asked for
+-- the report of a command of these words that made a world of another; it has no marks, unless they are asked for
 abbrev pub IsTold : (marks : Bool) → World → World → List (List ℕ) → Telling → Type 0
 IsTold marks old new words told =
     TellsOf old new words (record { changes = told.changes; tags = told.tags })

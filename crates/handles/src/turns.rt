@@ -42,7 +42,7 @@ impl Session {
         }
     }
 
-    /// Carries out the command of some words, which stand one behind the other in the bytes, and keeps what it tells
+    /// Carries out the command of some words, which stand one behind the other in the bytes, and keeps its report
     /// where that is wanted, with its marks where these are too.
     pub(crate) fn call_bytes(
         &mut self,
@@ -78,7 +78,7 @@ impl Session {
         }
     }
 
-    /// Carries out the command of some words, and keeps what it tells where that is wanted, with its marks where these
+    /// Carries out the command of some words, and keeps its report where that is wanted, with its marks where these
     /// are too.
     fn call(&mut self, tells: bool, marks: bool, words: Vec<String>) -> Given
         requires { 0 < vec_len words }
@@ -94,7 +94,7 @@ impl Session {
         }
     }
 
-    /// Carries out the command of some words, and keeps what it tells, with its marks where these are wanted.
+    /// Carries out the command of some words, and keeps its report, with its marks where these are wanted.
     fn call_told(&mut self, marks: bool, words: Vec<String>) -> Given
         requires { 0 < vec_len words }
         ensures { GivesTold marks (state_of self.old) (texts_of words.items) (state_of self.new) result }
@@ -181,7 +181,7 @@ impl Session {
         self.is_finished = true;
     }
 
-    /// Takes the next command of the script that is at hand, and carries it out, and keeps what it tells where that is
+    /// Takes the next command of the script that is at hand, and carries it out, and keeps its report where that is
     /// wanted, with its marks where these are too.
     pub(crate) fn take_turn(&mut self, alloc: Global, tells: bool, marks: bool) -> TurnEnd
         ensures plain { tells ≡ false → Turns (state_of self.old) (state_of self.new) result }

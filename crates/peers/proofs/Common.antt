@@ -40,21 +40,24 @@ pub use Rattle.documents.proofs.CarriedLaws.{IsCarried, IsMarked, IsQuiet, IsTag
 pub use Rattle.documents.proofs.CarriedLaws.{carried-with}
 pub use Rattle.documents.proofs.FindLaws.{bytes_eq-turned}
 pub use Rattle.documents.proofs.LeadLaws.{Leads}
-pub use Rattle.documents.proofs.MarkReportLaws.{listed-all, listed-watched, marks-made, marks-peered, marks-put}
-pub use Rattle.documents.proofs.MarkReportLaws.{marks-stand, none-watched, one-watched, own-watched}
+pub use Rattle.documents.proofs.MarkReportLaws.{current_key, insert_key, listed-all, listed-watched, marks-made}
+pub use Rattle.documents.proofs.MarkReportLaws.{marks-peered, marks-put, marks-stand, none-watched, one-watched}
+pub use Rattle.documents.proofs.MarkReportLaws.{own-watched}
 pub use Rattle.documents.proofs.NamesKeptLaws.{HasNamesOf, redo-kept, settings-kept, undo-kept}
 pub use Rattle.documents.proofs.NewNameLaws.{AreNamed, named-carried, named-peer, named-same}
 pub use Rattle.documents.proofs.OptionLeadLaws.{leads-first, leads-left, leads-peer, leads-settings, own-lines}
+pub use Rattle.documents.proofs.ToldPlaceLaws.{deleted-taken, inserted-taken, placed-active, refused-taken}
+pub use Rattle.documents.proofs.ToldPlaceLaws.{replaced-taken, still-taken}
 pub use Rattle.documents.proofs.UndoRunLaws.{AnswersFor, after_times, by_found, by_name, undone-redone}
 pub use Rattle.documents.specs.Deletions.{delete_places, replace_span}
-pub use Rattle.documents.specs.Documents.{Document, Widget, characters, widget_at}
+pub use Rattle.documents.specs.Documents.{Document, Widget, characters, no_widget, widget_at}
 pub use Rattle.documents.specs.History.{edit_redo, edit_reset, edit_undo, modified_set, redo_found, redone, undo_found}
 pub use Rattle.documents.specs.History.{undone}
 pub use Rattle.documents.specs.Indices.{place_at}
 pub use Rattle.documents.specs.Kept.{is_window_name}
 pub use Rattle.documents.specs.Marks.{mark_offset, mark_unset, place_named, set_found}
-pub use Rattle.documents.specs.MarksTold.{AreCarried, AreOthers, AreWatched, HasMarksBut, TellsMarks, carried_all}
-pub use Rattle.documents.specs.MarksTold.{mark_at, mark_carried, mark_key, mark_keys, own_keys, watched}
+pub use Rattle.documents.specs.MarksTold.{AreCarried, AreOthers, AreWatched, HasMarksBut, TakesMarksBut, TellsMarks}
+pub use Rattle.documents.specs.MarksTold.{carried_all, mark_at, mark_carried, mark_key, mark_keys, own_keys, watched}
 pub use Rattle.documents.specs.Options.{AreLines, IsLine, settings_of, with_settings}
 pub use Rattle.documents.specs.Promise.{Change, Does, Gives, answered, change_with, refused, unless_idle}
 pub use Rattle.documents.specs.Tags.{add_spans, known_or, lowered, raised, remove_spans, reordered}
@@ -65,8 +68,8 @@ pub use Rattle.documents.specs.WellFormed.{IsPlaced, IsWellFormedDocument, windo
 pub use Rattle.documents.specs.Widgets.{ShowsOpenly, bare_document, is_kept, keeps_some, new_document, new_widget}
 pub use Rattle.documents.specs.Widgets.{thinned, widget_named, with_peer, without_widgets}
 pub use Rattle.documents.specs.declared.mark_lists.MarkKey.{MarkKey}
-pub use Rattle.peers.specs.Commands.{Call, arguments_of, call_of, command, done, edits_text, is_frugal_reading, is_told}
-pub use Rattle.peers.specs.Commands.{shaped, switches_of}
+pub use Rattle.peers.specs.Commands.{Call, arguments_of, call_of, command, done, is_frugal_reading, is_told, shaped}
+pub use Rattle.peers.specs.Commands.{switches_of}
 pub use Rattle.peers.specs.Deletions.{delete, replace, replace_places, replace_words}
 pub use Rattle.peers.specs.History.{edit_modified, modified_word}
 pub use Rattle.peers.specs.Laws.{AnswersBefore, AreSpared, BeginsToKeep, GoesBack, NamesWindow, UndoRuns, after_all}
@@ -74,7 +77,7 @@ pub use Rattle.peers.specs.Laws.{forgets, forgets_read, is_forgotten, is_spared,
 pub use Rattle.peers.specs.Laws.{place_after_all, redo_words, repeated, sets_keeping, text_at, undo_words}
 pub use Rattle.peers.specs.Marks.{gravity_asked, gravity_given, gravity_words, mark_gravity, mark_set, set_at}
 pub use Rattle.peers.specs.Marks.{set_words}
-pub use Rattle.peers.specs.MarksTold.{CoversMarks, MarksTellAt, MarksTellOf}
+pub use Rattle.peers.specs.MarksTold.{MarksTellAt, MarksTellOf}
 pub use Rattle.peers.specs.Options.{configure, settings_given}
 pub use Rattle.peers.specs.Queries.{count_between, counted_as, direction_by, direction_of, has_switch, is_direction}
 pub use Rattle.peers.specs.Queries.{searched, stands_for, stop_at, turned}
@@ -85,7 +88,7 @@ pub use Rattle.peers.specs.Step.{refuses, seat_step, step}
 pub use Rattle.peers.specs.Tags.{add_words, next_between, place_or, previous_between, remove_words, tag_add, tag_lower}
 pub use Rattle.peers.specs.Tags.{tag_raise, tag_remove}
 pub use Rattle.peers.specs.Texts.{got, insert_pairs, insert_words, text_of, texts_of_places}
-pub use Rattle.peers.specs.Told.{AreTold, IsPlain, TellsAt, TellsOf, answer_of, edited, no_edit}
+pub use Rattle.peers.specs.Told.{AreTold, TellsAt, TellsOf, answer_of, edited, no_edit}
 pub use Rattle.peers.specs.WellFormed.{IsWellFormed}
 pub use Rattle.peers.specs.Widgets.{peer_create, peer_settings, peer_with, peer_words}
 pub use Rattle.peers.specs.Windows.{Homes, home_in, home_kept, homes_from, homes_of, names_in, places_in}

@@ -27,7 +27,7 @@ value-there : {A B : Type 0} (found : Result A Fault) (next : A → Result B Fau
 value-there (Ok value) next made is = (value, refl, is)
 value-there (Err fault) next made is = absurd (let h : Err fault ≡ Ok made = is in cc)
 
-places-within : (document : Document) (widget : Widget) (position : ℕ) (words : List (List ℕ)) (places : List ℕ) →
+pub places-within : (document : Document) (widget : Widget) (position : ℕ) (words : List (List ℕ)) (places : List ℕ) →
     view_end document widget ≤ length document.cells
     → places_at document widget position words ≡ Ok places → All (λ place. place ≤ length (shown document widget)) places
 places-within document widget position [] [] within is = All-nil (λ place. place ≤ length (shown document widget))

@@ -17,6 +17,7 @@ pub mod PromiseLaws
 pub mod SettledLaws
 pub mod StillTextLaws
 pub mod SwitchLaws
+pub mod TakenLaws
 pub mod ToldLaws
 pub mod ToldStepLaws
 pub mod UndoBackLaws

@@ -7,86 +7,54 @@ use Rattle.peers.proofs.Common.{Replace, Gravity, Place, edit_reset, gravity_of,
 use Rattle.peers.proofs.Common.{InvalidCommandName, Settings, is_window_name, settings_given, settings_of}
 use Rattle.peers.proofs.Common.{peer_settings, peer_with, peer_create, with_settings, with_peer, Document, Widget}
 use Rattle.peers.proofs.Common.{MarkKey, AreCarried, AreOthers, AreWatched, HasMarksBut, carried_all, mark_at}
-use Rattle.peers.proofs.Common.{mark_carried, mark_key, mark_keys, own_keys, watched, CoversMarks, Change, mark_unset}
-use Rattle.peers.proofs.Common.{answered, change_with, refused, done, edits_text, mark_set, mark_gravity, set_at}
-use Rattle.peers.proofs.Common.{mark_offset, place_named, place_at, gravity_asked, gravity_given, World, all_windows}
-use Rattle.peers.proofs.Common.{document_at, widget_at, seat_step, reading, Shape, shaped, call_of, command, Makes}
-use Rattle.peers.proofs.Common.{IsWellFormed, IsWellFormedDocument, TellsAt, Told, IsPlain, arguments_of, switches_of}
-use Rattle.peers.proofs.Common.{carried-with, listed-all, marks-made, marks-peered, marks-put, marks-stand}
-use Rattle.peers.proofs.Common.{none-watched, one-watched, own-watched}
-use Rattle.std.specs.Bool.{MatchBool}
-use Rattle.edit_ops.specs.declared.changes.TextChange.{TextChange}
+use Rattle.peers.proofs.Common.{mark_carried, mark_key, mark_keys, own_keys, watched, TakesMarksBut, Change, mark_unset}
+use Rattle.peers.proofs.Common.{answered, change_with, refused, done, mark_set, mark_gravity, set_at, mark_offset}
+use Rattle.peers.proofs.Common.{place_named, place_at, gravity_asked, gravity_given, World, all_windows, document_at}
+use Rattle.peers.proofs.Common.{widget_at, seat_step, reading, Shape, shaped, call_of, command, Makes, IsWellFormed}
+use Rattle.peers.proofs.Common.{IsWellFormedDocument, TellsAt, Told, carried-with, listed-all, marks-made, marks-peered}
+use Rattle.peers.proofs.Common.{marks-put, marks-stand, none-watched, one-watched, own-watched, IsPlaced, TellsCells}
+use Rattle.peers.proofs.Common.{is_same, literal, current_key, insert_key, still-taken}
 use Rattle.documents.specs.declared.mark_lists.MarkChange.{MarkChange}
+use Rattle.edit_ops.specs.declared.changes.TextChange.{TextChange}
 use Rattle.documents.proofs.AbsentMarksLaws.{absent-carried}
+use Rattle.documents.proofs.MarksToldLaws.{same-word}
 use Rattle.documents.proofs.StillMarksLaws.{marks-alike, marks-configured, marks-quiet, marks-tagged}
+use Rattle.documents.specs.MarksListed.{shared_key}
 use Rattle.peers.proofs.FrontLaws.{set-at}
+use Rattle.peers.proofs.StillTextLaws.{still-text}
+use Rattle.peers.proofs.TakenLaws.{deletes-take, inserts-take, replaces-take}
 use Rattle.peers.proofs.PromiseLaws.{value≢memory}
 use Rattle.peers.proofs.WorldLaws.{all-at}
 use Rattle.peers.proofs.DoneLaws.{IsMarkMove, IsOther, IsTextEdit, calling, edits-done, quiet-done, tags-done}
 
 -- ---- commands by what they may displace
 
--- a command that edits the text
-pub a-text-edit : (command : Command) → edits_text command ≡ true → IsTextEdit command
-a-text-edit Insert is = tt
-a-text-edit Delete is = tt
-a-text-edit Replace is = tt
-a-text-edit EditUndo is = tt
-a-text-edit EditRedo is = tt
-a-text-edit command is = absurd (true≢false (sym is))
-
--- a command of which no mark is listed
+-- a command that edits the text, or may displace marks
 abbrev pub displaces : Command → Bool
+displaces Insert = true
+displaces Delete = true
+displaces Replace = true
+displaces EditUndo = true
+displaces EditRedo = true
 displaces MarkGravity = true
 displaces MarkSet = true
 displaces MarkUnset = true
 displaces PeerCreate = true
-displaces command = edits_text command
+displaces command = false
 
--- a command that edits no text
-pub no-text : (command : Command) → edits_text command ≡ false → IsTextEdit command → ⊥
-no-text Insert is edit = true≢false is
-no-text Delete is edit = true≢false is
-no-text Replace is edit = true≢false is
-no-text EditUndo is edit = true≢false is
-no-text EditRedo is edit = true≢false is
-no-text command is edit = edit
-
-still-text : (command : Command) → displaces command ≡ false → IsTextEdit command → ⊥
-still-text Insert is edit = true≢false is
-still-text Delete is edit = true≢false is
-still-text Replace is edit = true≢false is
-still-text EditUndo is edit = true≢false is
-still-text EditRedo is edit = true≢false is
-still-text command is edit = edit
+still-edit : (command : Command) → displaces command ≡ false → IsTextEdit command → ⊥
+still-edit Insert is edit = true≢false is
+still-edit Delete is edit = true≢false is
+still-edit Replace is edit = true≢false is
+still-edit EditUndo is edit = true≢false is
+still-edit EditRedo is edit = true≢false is
+still-edit command is edit = edit
 
 still-marks : (command : Command) → displaces command ≡ false → IsMarkMove command → ⊥
 still-marks MarkGravity is move = true≢false is
 still-marks MarkSet is move = true≢false is
 still-marks MarkUnset is move = true≢false is
 still-marks command is move = move
-
--- a command that isn't one of those displaces none
-pub still-else : (command : Command) → command ≢ Insert → command ≢ Delete → command ≢ Replace → command ≢ EditUndo →
-    command ≢ EditRedo → command ≢ MarkSet → command ≢ MarkGravity → command ≢ MarkUnset → command ≢ PeerCreate →
-    displaces command ≡ false
-still-else Insert insert delete replace undo redo set turn unset peer = absurd (insert refl)
-still-else Delete insert delete replace undo redo set turn unset peer = absurd (delete refl)
-still-else Replace insert delete replace undo redo set turn unset peer = absurd (replace refl)
-still-else EditUndo insert delete replace undo redo set turn unset peer = absurd (undo refl)
-still-else EditRedo insert delete replace undo redo set turn unset peer = absurd (redo refl)
-still-else MarkSet insert delete replace undo redo set turn unset peer = absurd (set refl)
-still-else MarkGravity insert delete replace undo redo set turn unset peer = absurd (turn refl)
-still-else MarkUnset insert delete replace undo redo set turn unset peer = absurd (unset refl)
-still-else PeerCreate insert delete replace undo redo set turn unset peer = absurd (peer refl)
-still-else command insert delete replace undo redo set turn unset peer = refl
-
-still-edits : (command : Command) → displaces command ≡ false → edits_text command ≡ false
-still-edits MarkGravity is = refl
-still-edits MarkSet is = refl
-still-edits MarkUnset is = refl
-still-edits PeerCreate is = refl
-still-edits command is = is
 
 -- ---- what each leaves where it was
 
@@ -113,19 +81,50 @@ module _ (limits : LimitTable) (windows : List (List ℕ)) (document : Document)
       (done command document (calling limits windows widget switches position arguments)).document
   marks-still command switches position arguments is =
       quiet-done limits document widget (HasMarksBut [] document) (marks-quiet document limits widget) command windows
-      switches position arguments (λ edit. absurd (still-text command is edit))
+      switches position arguments (λ edit. absurd (still-edit command is edit))
       (tags-done limits document widget (HasMarksBut [] document) (λ key _. refl) (marks-tagged document limits widget)
       command windows switches position arguments) (λ move. absurd (still-marks command is move))
       (others-still command switches position arguments is)
 
-  pub covers-still : (command : Command) (switches : List (List ℕ)) (position : ℕ) (arguments : List (List ℕ))
+  -- a command that doesn't edit the text, and leaves every mark but those of a list
+  covers-from : (command : Command) (switches : List (List ℕ)) (position : ℕ) (arguments : List (List ℕ))
+      (marks : List MarkChange) → (IsTextEdit command → ⊥)
+      → HasMarksBut marks document
+      (done command document (calling limits windows widget switches position arguments)).document
+      → TakesMarksBut marks document (done command document (calling limits windows widget switches position arguments))
+  covers-from command switches position arguments marks quiet stays =
+      still-taken marks document (done command document (calling limits windows widget switches position arguments))
+      (still-text limits windows document widget command switches position arguments quiet) stays
+
+  covers-still : (command : Command) (switches : List (List ℕ)) (position : ℕ) (arguments : List (List ℕ))
       → displaces command ≡ false
-      → CoversMarks command document (calling limits windows widget switches position arguments) []
+      → TakesMarksBut [] document (done command document (calling limits windows widget switches position arguments))
   covers-still command switches position arguments is =
-      subst (λ edits. MatchBool edits ((key : MarkKey) → AreOthers key [] → mark_at document key ≡ None)
-      (HasMarksBut [] document
-      (done command document (calling limits windows widget switches position arguments)).document))
-      (sym (still-edits command is)) (marks-still command switches position arguments is)
+      covers-from command switches position arguments [] (still-edit command is)
+      (marks-still command switches position arguments is)
+
+  -- a command that isn't one of those displaces none
+  pub covers-none : (command : Command) (switches : List (List ℕ)) (position : ℕ) (arguments : List (List ℕ))
+      → IsPlaced document widget → command ≢ Replace → command ≢ EditUndo → command ≢ EditRedo → command ≢ MarkSet
+      → command ≢ MarkGravity → command ≢ MarkUnset → command ≢ PeerCreate
+      → TakesMarksBut [] document (done command document (calling limits windows widget switches position arguments))
+  covers-none Insert switches position arguments placed replace undo redo set turn unset peer =
+      inserts-take limits document widget placed position arguments
+  covers-none Delete switches position arguments placed replace undo redo set turn unset peer =
+      deletes-take limits document widget placed position arguments
+  covers-none Replace switches position arguments placed replace undo redo set turn unset peer =
+      absurd (replace refl)
+  covers-none EditUndo switches position arguments placed replace undo redo set turn unset peer = absurd (undo refl)
+  covers-none EditRedo switches position arguments placed replace undo redo set turn unset peer = absurd (redo refl)
+  covers-none MarkSet switches position arguments placed replace undo redo set turn unset peer = absurd (set refl)
+  covers-none MarkGravity switches position arguments placed replace undo redo set turn unset peer =
+      absurd (turn refl)
+  covers-none MarkUnset switches position arguments placed replace undo redo set turn unset peer =
+      absurd (unset refl)
+  covers-none PeerCreate switches position arguments placed replace undo redo set turn unset peer =
+      absurd (peer refl)
+  covers-none command switches position arguments placed replace undo redo set turn unset peer =
+      covers-still command switches position arguments refl
 
   -- the mark that is named first
   abbrev pub first_listed : List (List ℕ) → List MarkChange
@@ -198,49 +197,70 @@ module _ (limits : LimitTable) (windows : List (List ℕ)) (document : Document)
   -- ---- what is listed covers what a command may displace
 
   pub covers-edit : (command : Command) (switches : List (List ℕ)) (position : ℕ) (arguments : List (List ℕ))
-      (marks : List MarkChange) → edits_text command ≡ true → marks ≡ map (watched document) (mark_keys document)
-      → CoversMarks command document (calling limits windows widget switches position arguments) marks
-  covers-edit command switches position arguments marks edits is =
-      subst (λ edits. MatchBool edits ((key : MarkKey) → AreOthers key marks → mark_at document key ≡ None)
-      (HasMarksBut marks document
-      (done command document (calling limits windows widget switches position arguments)).document))
-      (sym edits) (λ key others. listed-all document key (subst (AreOthers key) is others))
+      (marks : List MarkChange) → IsTextEdit command → marks ≡ map (watched document) (mark_keys document)
+      → TakesMarksBut marks document (done command document (calling limits windows widget switches position arguments))
+  covers-edit command switches position arguments marks edits is told tells key others =
+      let none : mark_at document key ≡ None = listed-all document key (subst (AreOthers key) is others) in
+      edits-done limits document widget
+      (λ (new : Document). (key : MarkKey) → mark_at document key ≡ None → mark_at new key ≡ None)
+      (λ key none. none) (absent-carried limits document widget) command windows switches position arguments
+      edits key none
+      ∙ sym (ap (option_map (carried_all told.changes)) none)
+
+  pub covers-replace : (command : Command) (switches : List (List ℕ)) (position : ℕ) (arguments : List (List ℕ))
+      (marks : List MarkChange) → IsPlaced document widget → command ≡ Replace
+      → marks ≡ watched document (mark_key widget (literal "insert")) ∷ []
+      → TakesMarksBut marks document (done command document (calling limits windows widget switches position arguments))
+  covers-replace command switches position arguments marks placed is same =
+      let call = calling limits windows widget switches position arguments in
+      let key : mark_key widget (literal "insert") ≡ insert_key widget.name =
+      ap (λ b. if b then insert_key widget.name else (if is_same (literal "insert") (literal "current")
+      then current_key widget.name else shared_key (literal "insert"))) (same-word (literal "insert")) in
+      let listed : watched document (insert_key widget.name) ∷ [] ≡ marks =
+      sym (same ∙ ap (λ key. watched document key ∷ []) key) in
+      subst (λ command. TakesMarksBut marks document (done command document call)) (sym is)
+      (subst (λ marks. TakesMarksBut marks document (done Replace document call)) listed
+      (replaces-take limits document widget placed position arguments))
 
   pub covers-set : (command : Command) (switches : List (List ℕ)) (position : ℕ) (arguments : List (List ℕ))
       (marks : List MarkChange) → command ≡ MarkSet → marks ≡ first_listed arguments
-      → CoversMarks command document (calling limits windows widget switches position arguments) marks
+      → TakesMarksBut marks document (done command document (calling limits windows widget switches position arguments))
   covers-set command switches position arguments marks is same =
-      subst (λ command. CoversMarks command document
-      (calling limits windows widget switches position arguments) marks) (sym is)
+      subst (λ command. TakesMarksBut marks document (done command document
+      (calling limits windows widget switches position arguments))) (sym is)
+      (covers-from MarkSet switches position arguments marks (λ edit. edit)
       (subst (λ marks. HasMarksBut marks document (mark_set limits document widget position arguments).document)
-      (sym same) (sets-first position arguments))
+      (sym same) (sets-first position arguments)))
 
   pub covers-turn : (command : Command) (switches : List (List ℕ)) (position : ℕ) (arguments : List (List ℕ))
       (marks : List MarkChange) → command ≡ MarkGravity → marks ≡ first_listed arguments
-      → CoversMarks command document (calling limits windows widget switches position arguments) marks
+      → TakesMarksBut marks document (done command document (calling limits windows widget switches position arguments))
   covers-turn command switches position arguments marks is same =
-      subst (λ command. CoversMarks command document
-      (calling limits windows widget switches position arguments) marks) (sym is)
+      subst (λ command. TakesMarksBut marks document (done command document
+      (calling limits windows widget switches position arguments))) (sym is)
+      (covers-from MarkGravity switches position arguments marks (λ edit. edit)
       (subst (λ marks. HasMarksBut marks document (mark_gravity document widget position arguments).document)
-      (sym same) (turns-first position arguments))
+      (sym same) (turns-first position arguments)))
 
   pub covers-unset : (command : Command) (switches : List (List ℕ)) (position : ℕ) (arguments : List (List ℕ))
       (marks : List MarkChange) → command ≡ MarkUnset
       → HasMarksBut marks document (mark_unset document arguments).document
-      → CoversMarks command document (calling limits windows widget switches position arguments) marks
+      → TakesMarksBut marks document (done command document (calling limits windows widget switches position arguments))
   covers-unset command switches position arguments marks is left =
-      subst (λ command. CoversMarks command document
-      (calling limits windows widget switches position arguments) marks) (sym is) left
+      subst (λ command. TakesMarksBut marks document (done command document
+      (calling limits windows widget switches position arguments))) (sym is)
+      (covers-from MarkUnset switches position arguments marks (λ edit. edit) left)
 
   pub covers-peer : (command : Command) (switches : List (List ℕ)) (position : ℕ) (arguments : List (List ℕ))
       (marks : List MarkChange) → command ≡ PeerCreate → marks ≡ peer_listed arguments
-      → CoversMarks command document (calling limits windows widget switches position arguments) marks
+      → TakesMarksBut marks document (done command document (calling limits windows widget switches position arguments))
   covers-peer command switches position arguments marks is same =
-      subst (λ command. CoversMarks command document
-      (calling limits windows widget switches position arguments) marks) (sym is)
+      subst (λ command. TakesMarksBut marks document (done command document
+      (calling limits windows widget switches position arguments))) (sym is)
+      (covers-from PeerCreate switches position arguments marks (λ edit. edit)
       (subst (λ marks. HasMarksBut marks document
       (peer_create limits windows document widget position arguments).document) (sym same)
-      (peers-first position arguments))
+      (peers-first position arguments)))
 
   -- ---- what is listed is as it is
 
@@ -251,38 +271,6 @@ module _ (limits : LimitTable) (windows : List (List ℕ)) (document : Document)
   pub peer-watched : (words : List (List ℕ)) → AreWatched document (peer_listed words)
   peer-watched [] = none-watched document
   peer-watched (name ∷ words) = own-watched document name
-
-  -- ---- where marks are that aren't listed
-
-  abbrev carried_same : Option Place → Option Place
-  carried_same place = option_map (carried_all []) place
-
-  pub uncarried : (place : Option Place) → carried_same place ≡ place
-  uncarried None = refl
-  uncarried (Some place) = refl
-
-  -- a mark that isn't listed is where the changes take it
-  pub others-carried : (command : Command) (switches : List (List ℕ)) (position : ℕ) (arguments : List (List ℕ))
-      (marks : List MarkChange) (changes : List TextChange)
-      → let call = calling limits windows widget switches position arguments in
-      CoversMarks command document call marks → (edits_text command ≡ false → changes ≡ [])
-      → (key : MarkKey) → AreOthers key marks
-      → mark_at (done command document call).document key ≡ mark_carried changes document key
-  others-carried command switches position arguments marks changes covers still key others =
-      let new = (done command document (calling limits windows widget switches position arguments)).document in
-      let All : Type 0 = (key : MarkKey) → AreOthers key marks → mark_at document key ≡ None in
-      elim (edits_text command) as (λ b. edits_text command ≡ b → MatchBool b All (HasMarksBut marks document new)
-      → mark_at new key ≡ mark_carried changes document key) [
-        | true ↦ λ edits all.
-            let none : mark_at document key ≡ None = all key others in
-            edits-done limits document widget
-            (λ (new : Document). (key : MarkKey) → mark_at document key ≡ None → mark_at new key ≡ None)
-            (λ key none. none) (absent-carried limits document widget) command windows switches position arguments
-            (a-text-edit command edits) key none
-            ∙ sym (ap (option_map (carried_all changes)) none)
-        | false ↦ λ edits but. but key others ∙ sym (ap (λ cs. mark_carried cs document key) (still edits)
-            ∙ uncarried (mark_at document key))
-      ] refl covers
 
 -- ---- what a command of a world displaces
 
@@ -296,12 +284,11 @@ pub carried-but : (old new : World) (place seat : ℕ) (shape : Shape) (words : 
     (marks : List MarkChange) → IsWellFormed old → place < length old.documents → reading words ≡ Ok shape →
     Makes old new (Ok told.answer) (seat_step old place seat words)
     → TellsAt old new (Some place) (seat_step old place seat words).edits told.edit
-    → IsPlain (edits_text shape.command) told
     → let document = document_at old.documents place in
-    CoversMarks shape.command document
-    (call_of old.limits (all_windows old) (widget_at document seat) shape words) marks
+    TakesMarksBut marks document (done shape.command document
+    (call_of old.limits (all_windows old) (widget_at document seat) shape words))
     → AreCarriedBut told.edit.changes document (document_at new.documents place) marks
-carried-but old new place seat shape words told marks formed within read makes tells plain covers =
+carried-but old new place seat shape words told marks formed within read makes tells covers =
     let document = document_at old.documents place in let widget = widget_at document seat in
     let change = command old.limits (all_windows old) document widget words in
     let is : document_at new.documents place ≡ change.document =
@@ -330,6 +317,6 @@ carried-but old new place seat shape words told marks formed within read makes t
         stand = marks-stand old.limits document there;
       };
       others = λ key others. ap (λ (d : Document). mark_at d key) (is ∙ ap (λ (c : Change). c.document) made)
-          ∙ others-carried old.limits (all_windows old) document widget shape.command (switches_of shape words)
-          shape.arguments (arguments_of shape words) marks told.edit.changes covers plain.still key others;
+          ∙ covers told.edit (subst (λ (c : Change). TellsCells c.edits document.cells c.document.cells told.edit) made
+          (subst (λ (d : Document). TellsCells change.edits document.cells d.cells told.edit) is tells)) key others;
     }

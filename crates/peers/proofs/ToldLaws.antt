@@ -3,8 +3,7 @@
 use Rattle.peers.proofs.Common.{◌≡◌, ◌≢◌, ℕ, Bool, true, false, List, [], Ok, Err, refl, sym, ap, ◌∙◌, subst, IfOk}
 use Rattle.peers.proofs.Common.{Result, true≢false, LimitTable, Command, Delete, EditRedo, EditUndo, Insert, Replace}
 use Rattle.peers.proofs.Common.{TagAdd, TagDelete, TagRemove, Answer, Fault, Memory, Document, Widget, Change, Does}
-use Rattle.peers.proofs.Common.{done, answer_of, no_edit, is_told, AreTold, IsPlain, edited, Told, TellsCells, IsTold}
-use Rattle.peers.proofs.Common.{reply_of}
+use Rattle.peers.proofs.Common.{done, answer_of, no_edit, is_told, AreTold, edited, Told, TellsCells, IsTold, reply_of}
 use Rattle.documents.specs.declared.told.EditTold.{EditTold}
 use Rattle.peers.specs.Told.{answered}
 use Rattle.documents.proofs.StillCellLaws.{HasCellsOf, cells-marked, cells-quiet}
@@ -115,17 +114,12 @@ told-quiet limits old new follows windows widget switches position arguments com
     (quiet-text command quiet) (quiet-tags command quiet)))
 told-quiet limits old new follows windows widget switches position arguments command (Err fault) quiet does = λ _. tt
 
--- ---- what else is known of a report
+-- ---- a report without marks
 
-pub plain-answered : (edits : Bool) (made : Result Answer Fault) → IfOk (answered made) (IsPlain edits)
-plain-answered edits (Ok answer) = record { marks = refl; still = λ _. refl }
-plain-answered edits (Err fault) = tt
+pub answered-unmarked : (made : Result Answer Fault) → IfOk (answered made) (λ told. told.marks ≡ [])
+answered-unmarked (Ok answer) = refl
+answered-unmarked (Err fault) = tt
 
-pub plain-text : (made : Result EditTold Fault) → IfOk (edited made) (IsPlain true)
-plain-text (Ok edit) = record { marks = refl; still = λ no. absurd (true≢false no) }
-plain-text (Err fault) = tt
-
-pub plain-tags : (made : Result EditTold Fault) → IfOk made (λ told. told.changes ≡ []) →
-    IfOk (edited made) (IsPlain false)
-plain-tags (Ok edit) still = record { marks = refl; still = λ _. still }
-plain-tags (Err fault) still = tt
+pub edited-unmarked : (made : Result EditTold Fault) → IfOk (edited made) (λ told. told.marks ≡ [])
+edited-unmarked (Ok edit) = refl
+edited-unmarked (Err fault) = tt

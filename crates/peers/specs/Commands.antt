@@ -88,15 +88,6 @@ done PeerNames document call = unchanged document (peer_names document call.widg
 done Text document call = refused document (BadOption 1)
 done Destroy document call = refused document (BadOption 1)
 
--- commands that edit the text
-abbrev pub edits_text : Command → Bool
-edits_text Insert = true
-edits_text Delete = true
-edits_text Replace = true
-edits_text EditUndo = true
-edits_text EditRedo = true
-edits_text command = false
-
 -- commands that edit the text or its tags
 abbrev pub is_told : Command → Bool
 is_told Insert = true

@@ -1,5 +1,5 @@
 -- What is told of a command: what it changed of the text that its widget shows, and of the tags there.
-use Rattle.std.specs.Prelude.{◌≡◌, ℕ, Bool, true, false, List, [], ◌∷◌, Option, None, Some, Result, Ok, Err, IfOk}
+use Rattle.std.specs.Prelude.{◌≡◌, ℕ, Bool, true, List, [], ◌∷◌, Option, None, Some, Result, Ok, Err, IfOk}
 use Rattle.undo_stack.specs.declared.actions.Action.{Action}
 use Rattle.command_effects.specs.declared.answers.Answer.{Answer}
 use Rattle.command_effects.specs.declared.answers.Answer.TheVariants.{Empty}
@@ -49,8 +49,3 @@ edited (Err fault) = Err fault
 abbrev pub AreTold : Bool → Change → Document → Document → Result Told Fault → Type 0
 AreTold follows change old new result =
     follows ≡ true → IfOk result (λ told. TellsCells change.edits old.cells new.cells told.edit)
-
--- such a report has no marks, and of a command that doesn't edit the text no changes of it
-pub record IsPlain (edits : Bool) (told : Told) : Type 0 where
-  pub marks : told.marks ≡ []
-  pub still : edits ≡ false → told.edit.changes ≡ []

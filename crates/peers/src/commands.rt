@@ -1,9 +1,9 @@
-ghost use Rattle.std.specs.Prelude.{◌≡◌, ◌≢◌, ◌+◌, ◌<◌, ◌≤◌, ℕ, true, false, List, length, Ok, Err, IfOk};
+ghost use Rattle.std.specs.Prelude.{◌≡◌, ◌≢◌, ◌+◌, ◌<◌, ◌≤◌, ℕ, true, false, [], List, length, Ok, Err, IfOk};
 ghost use Rattle.tcl_words.specs.Unread.{texts_of};
 ghost use Rattle.documents.specs.Documents.{widget_at};
 ghost use Rattle.documents.specs.Promise.{Does};
-ghost use Rattle.peers.specs.Commands.{done, command, edits_text, is_frugal, is_told};
-ghost use Rattle.peers.specs.Told.{answer_of, AreTold, IsPlain};
+ghost use Rattle.peers.specs.Commands.{done, command, is_frugal, is_told};
+ghost use Rattle.peers.specs.Told.{answer_of, AreTold};
 ghost use Rattle.command_table.specs.Reading.{reading};
 ghost use Rattle.command_table.specs.declared.commands.Command.TheVariants.{PeerCreate};
 ghost use Rattle.command_effects.specs.declared.answers.Fault.TheVariants.{Memory};
@@ -126,7 +126,7 @@ fn carry_out<S: TextStore>(
       position = call.entry.position;
       arguments = texts_of call.entry.arguments.now;
     })) document.old document.new result }
-    ensures plain { IfOk result (IsPlain (edits_text command)) }
+    ensures unmarked { IfOk result (λ told. told.marks ≡ []) }
     ensures frugal { is_frugal command ≡ true → result ≢ Err Memory }
 {
     let Call {
@@ -170,7 +170,7 @@ pub fn command<S: TextStore>(
     ensures tells { (windows : List (List ℕ)) → AreTold caller.entry.follows
         (command caller.entry.limits.now windows document.old (widget_at document.old caller.entry.seat)
         (texts_of words.now)) document.old document.new result }
-    ensures plain { IfOk result (IsPlain (edits_text shape.command)) }
+    ensures unmarked { IfOk result (λ told. told.marks ≡ []) }
     ensures frugal { is_frugal shape.command ≡ true → result ≢ Err Memory }
 {
     let call = Call {

@@ -6,10 +6,9 @@ ghost use Rattle.documents.specs.Views.{shown};
 ghost use Rattle.command_effects.specs.Faults.{with_value};
 ghost use Rattle.documents.specs.Promise.{Gives, Does};
 ghost use Rattle.documents.specs.Marks.{place_named};
-ghost use Rattle.documents.specs.MarksTold.{mark_key, own_keys, watched, AreWatched};
+ghost use Rattle.documents.specs.MarksTold.{mark_key, own_keys, watched, AreWatched, TakesMarksBut};
 ghost use Rattle.documents.specs.WellFormed.{IsWellFormedDocument};
-ghost use Rattle.peers.specs.Commands.{is_frugal};
-ghost use Rattle.peers.specs.MarksTold.{CoversMarks};
+ghost use Rattle.peers.specs.Commands.{done, is_frugal};
 ghost use Rattle.std.specs.Prelude.{ℕ, List, true, is_ok, flat_map, map, take, IfOk};
 ghost use Rattle.peers.specs.Marks.{set_at, mark_set, gravity_asked, gravity_given, gravity_words};
 ghost use Rattle.peers.specs.Marks.{mark_gravity, mark_names_of, mark_answer, origin_at, next_from, next_at, mark_next};
@@ -303,20 +302,19 @@ pub fn marks_before<S: TextStore>(
     ensures watched { (limits : LimitTable) → IsWellFormedDocument limits document.now →
         IfOk result (λ marks. AreWatched document.now marks) }
     ensures covers { (limits : LimitTable) (windows switches : List (List ℕ)) (position : ℕ) →
-        IfOk result (λ marks. CoversMarks command document.now (record {
+        IsWellFormedDocument limits document.now → IfOk result (λ marks.
+        TakesMarksBut marks document.now (done command document.now (record {
           limits = limits;
           windows = windows;
           widget = widget_at document.now seat;
           switches = switches;
           position = position;
           arguments = texts_of arguments.now;
-        }) marks) }
+        }))) }
     ensures frugal { is_frugal command ≡ true → is_ok result ≡ true }
 {
     match command {
-        Command::Insert => document.list_marks(),
-        Command::Delete => document.list_marks(),
-        Command::Replace => document.list_marks(),
+        Command::Replace => document.list_mark(seat, "insert"),
         Command::EditUndo => document.list_marks(),
         Command::EditRedo => document.list_marks(),
         Command::MarkSet => first_mark(document, seat, arguments),

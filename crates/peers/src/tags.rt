@@ -1,4 +1,4 @@
-ghost use Rattle.std.specs.Prelude.{◌≡◌, ◌+◌, ◌≤◌, ◌<◌, [], length, chars, option_map, IfOk};
+ghost use Rattle.std.specs.Prelude.{◌+◌, ◌≤◌, ◌<◌, length, chars, option_map, IfOk};
 ghost use Rattle.text_model.specs.LimitTable.{LimitTable};
 ghost use Rattle.tcl_words.specs.Unread.{texts_of};
 ghost use Rattle.documents.specs.Documents.{widget_at};
@@ -30,7 +30,6 @@ pub fn tag_add<S: TextStore>(
     ensures told { IsTold caller.now.follows
         (tag_add caller.now.limits.now document.old (widget_at document.old caller.now.seat) position
         (texts_of arguments.now)) document.old document.new result }
-    ensures still { IfOk result (λ told. told.changes ≡ []) }
 {
     let (name, words) = first(arguments)?;
     let places = places_at(document, caller.seat, position + 1, words)?;
@@ -51,7 +50,6 @@ pub fn tag_remove<S: TextStore>(
     ensures told { IsTold caller.now.follows
         (tag_remove document.old (widget_at document.old caller.now.seat) position (texts_of arguments.now))
         document.old document.new result }
-    ensures still { IfOk result (λ told. told.changes ≡ []) }
 {
     let (name, words) = first(arguments)?;
     let places = places_at(document, caller.seat, position + 1, words)?;

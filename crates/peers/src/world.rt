@@ -10,12 +10,12 @@ ghost use Rattle.documents.specs.Kept.{is_window_name};
 ghost use Rattle.peers.specs.History.{can_redo_by, can_undo_by};
 ghost use Rattle.peers.specs.Step.{Makes, changed, create_named, create, create_shaped, destroy, destroy_shaped};
 ghost use Rattle.peers.specs.Step.{on_home, on_widget, seat_step, step, are_frugal};
-ghost use Rattle.peers.specs.Commands.{edits_text, is_frugal, is_frugal_reading};
+ghost use Rattle.peers.specs.Commands.{is_frugal, is_frugal_reading};
 ghost use Rattle.peers.specs.Widgets.{peer_create, peer_with};
 ghost use Rattle.peers.specs.WellFormed.{IsWellFormed};
 ghost use Rattle.peers.specs.World.{all_windows, document_at, home};
 ghost use Rattle.peers.specs.MarksTold.{MarksTellAt, MarksTellOf};
-ghost use Rattle.peers.specs.Told.{answer_of, IsPlain, TellsAt, TellsOf};
+ghost use Rattle.peers.specs.Told.{answer_of, TellsAt, TellsOf};
 ghost use Rattle.documents.specs.Options.{AreLines};
 
 use crate::commands::command;
@@ -240,7 +240,7 @@ impl<S: TextStore> World<S> {
             (seat_step self.old place seat (texts_of words.now)) }
         ensures tells { follows ≡ true → IfOk result (λ told. TellsAt self.old self.new (Some place)
             (seat_step self.old place seat (texts_of words.now)).edits told.edit) }
-        ensures plain { IfOk result (IsPlain (edits_text shape.command)) }
+        ensures unmarked { IfOk result (λ told. told.marks ≡ []) }
         ensures frugal { is_frugal shape.command ≡ true → result ≢ Err Fault.Memory }
     {
         match shape.command {

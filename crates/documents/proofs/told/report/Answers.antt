@@ -1,5 +1,5 @@
 use Rattle.documents.proofs.Common.{[], ◌∷◌, true, ap, sym, subst, ◌∙◌, true≢false, key_pairs, false, KnowsDelta}
-use Rattle.documents.proofs.Common.{lost_run, option_map, Some, box_value, TellsRuns, AreRising}
+use Rattle.documents.proofs.Common.{IsDelta, lost_run, option_map, Some, box_value, TellsRuns, AreRising}
 use Rattle.documents.proofs.DeltaLaws.{delta-tells, TellsLost}
 use Rattle.documents.proofs.told.report.Goals.{in-Some-lost+in_ok-push_runs, in_default-lost}
 use Rattle.documents.proofs.told.report.Goals as goal
@@ -14,10 +14,11 @@ returns g c = λ actions cells knows.
     let seats = c.args.seats.now.entries in
     let table = c.args.tags.now in
     let pairs = key_pairs seats table.tags in
-    let delta = c.in-Some.field-0 in
+    let delta = c.into_inner-hunks.result in
     let old = (g.S.TextStore.content c.args.store.now).cells in
     let between = c.match-lost.list in
-    let is = (subst (KnowsDelta true actions old cells) c.in-Some.is knows).1 in
+    let is = subst (IsDelta actions old cells) (sym c.into_inner-hunks.ensures)
+    (subst (KnowsDelta true actions old cells) c.in-Some.is knows).1 in
     let lost : TellsLost pairs (lost_run delta) between = elim c.match-lost.branch [
       | in-Some-lost+in_ok-push_runs w ↦
           let run = w.into_inner.result in

@@ -1,6 +1,6 @@
-use Rattle.edit_ops.proofs.Common.{◌≡◌, ◌+◌, ◌-◌, Bool, sym, subst, map, deletion, characters, changed}
-use Rattle.edit_ops.proofs.Common.{if◌then◌else◌, removed_all, without_slots, Span, sum_by, IsDelta, Delta, ap, ◌∙◌}
-use Rattle.edit_ops.proofs.Common.{Some, option_map, box_value}
+use Rattle.edit_ops.proofs.Common.{◌≡◌, ◌+◌, ◌-◌, Bool, sym, subst, map, deletion, characters, changed, if◌then◌else◌}
+use Rattle.edit_ops.proofs.Common.{removed_all, without_slots, Span, sum_by, IsDelta, Delta, ap, ◌∙◌, Some, option_map}
+use Rattle.edit_ops.proofs.Common.{box_value}
 use Rattle.edit_ops.proofs.DeltaLaws.{bared-delta, long, plain-delta}
 use Rattle.edit_ops.proofs.deletions.deletion_delta.Goals.{then-is_bared+in_ok-new, else-is_bared}
 use Rattle.edit_ops.proofs.deletions.deletion_delta.Goals as goal
@@ -28,5 +28,9 @@ returns g c =
       | else-is_bared w ↦ subst Made (sym w.if-is_bared.false)
           (plain-delta cells end runs delta c.requires.apart c.requires.within c.in_ok-take_spans.ensures
           (ap (option_map box_value) w.lost-is) c.new-2.ensures.items)
-    ] in
-    (c.if-not-rules.false, made)
+    ] in (
+      c.if-not-rules.false,
+      subst (IsDelta (map (λ (run : Span). deletion (characters cells) run.from run.to) runs) cells
+          (removed_all runs (if c.args.is_bared then changed without_slots (end - 1) end cells else cells)))
+          (sym c.in_ok-new-2.ensures.ok) made,
+    )

@@ -1,7 +1,7 @@
-use Rattle.peers.proofs.Common.{subst, sym, IfOk, Err, Memory, texts_of, widget_at, edits_text, IsPlain, ◌≢◌, done}
-use Rattle.peers.proofs.Common.{Insert, Delete, Replace, EditUndo, EditRedo, TagAdd, TagRemove, TagDelete}
+use Rattle.peers.proofs.Common.{subst, sym, IfOk, Err, Memory, texts_of, widget_at, [], ◌≡◌, ◌≢◌, done, Insert, Delete}
+use Rattle.peers.proofs.Common.{Replace, EditUndo, EditRedo, TagAdd, TagRemove, TagDelete}
 use Rattle.peers.proofs.DoneLaws.{calling}
-use Rattle.peers.proofs.ToldLaws.{answered-memory, does-answered, does-edited, plain-answered, plain-tags, plain-text}
+use Rattle.peers.proofs.ToldLaws.{answered-memory, does-answered, does-edited, answered-unmarked, edited-unmarked}
 use Rattle.peers.proofs.ToldLaws.{quiet-else, told-edited, told-quiet}
 use Rattle.peers.proofs.commands.carry_out.Goals as goal
 
@@ -16,9 +16,9 @@ returns-in-Insert-clause-tells g c = λ windows.
     (widget_at document call.caller.seat) (texts_of call.switches.now) call.position (texts_of call.arguments.now)))
     document c.insert.new.document call.caller.follows c.insert.result c.insert.ensures.told)
 
-pub returns-in-Insert-clause-plain : goal.returns-in-Insert-clause-plain
-returns-in-Insert-clause-plain g c =
-    rw (c.edited.ensures, c.in-Insert.is) (plain-text c.insert.result)
+pub returns-in-Insert-clause-unmarked : goal.returns-in-Insert-clause-unmarked
+returns-in-Insert-clause-unmarked g c =
+    rw c.edited.ensures (edited-unmarked c.insert.result)
 
 pub returns-in-Delete-clause-does : goal.returns-in-Delete-clause-does
 returns-in-Delete-clause-does g c = λ windows.
@@ -32,9 +32,9 @@ returns-in-Delete-clause-tells g c = λ windows.
     (widget_at document call.caller.seat) (texts_of call.switches.now) call.position (texts_of call.arguments.now)))
     document c.delete.new.document call.caller.follows c.delete.result c.delete.ensures.told)
 
-pub returns-in-Delete-clause-plain : goal.returns-in-Delete-clause-plain
-returns-in-Delete-clause-plain g c =
-    rw (c.edited-in-Delete.ensures, c.in-Delete.is) (plain-text c.delete.result)
+pub returns-in-Delete-clause-unmarked : goal.returns-in-Delete-clause-unmarked
+returns-in-Delete-clause-unmarked g c =
+    rw c.edited-in-Delete.ensures (edited-unmarked c.delete.result)
 
 pub returns-in-Replace-clause-does : goal.returns-in-Replace-clause-does
 returns-in-Replace-clause-does g c = λ windows.
@@ -48,9 +48,9 @@ returns-in-Replace-clause-tells g c = λ windows.
     (widget_at document call.caller.seat) (texts_of call.switches.now) call.position (texts_of call.arguments.now)))
     document c.replace.new.document call.caller.follows c.replace.result c.replace.ensures.told)
 
-pub returns-in-Replace-clause-plain : goal.returns-in-Replace-clause-plain
-returns-in-Replace-clause-plain g c =
-    rw (c.edited-in-Replace.ensures, c.in-Replace.is) (plain-text c.replace.result)
+pub returns-in-Replace-clause-unmarked : goal.returns-in-Replace-clause-unmarked
+returns-in-Replace-clause-unmarked g c =
+    rw c.edited-in-Replace.ensures (edited-unmarked c.replace.result)
 
 pub returns-in-EditUndo-clause-does : goal.returns-in-EditUndo-clause-does
 returns-in-EditUndo-clause-does g c = λ windows.
@@ -64,9 +64,9 @@ returns-in-EditUndo-clause-tells g c = λ windows.
     (widget_at document call.caller.seat) (texts_of call.switches.now) call.position (texts_of call.arguments.now)))
     document c.edit_undo.new.self call.caller.follows c.edit_undo.result c.edit_undo.ensures.told)
 
-pub returns-in-EditUndo-clause-plain : goal.returns-in-EditUndo-clause-plain
-returns-in-EditUndo-clause-plain g c =
-    rw (c.edited-in-EditUndo.ensures, c.in-EditUndo.is) (plain-text c.edit_undo.result)
+pub returns-in-EditUndo-clause-unmarked : goal.returns-in-EditUndo-clause-unmarked
+returns-in-EditUndo-clause-unmarked g c =
+    rw c.edited-in-EditUndo.ensures (edited-unmarked c.edit_undo.result)
 
 pub returns-in-EditRedo-clause-does : goal.returns-in-EditRedo-clause-does
 returns-in-EditRedo-clause-does g c = λ windows.
@@ -80,9 +80,9 @@ returns-in-EditRedo-clause-tells g c = λ windows.
     (widget_at document call.caller.seat) (texts_of call.switches.now) call.position (texts_of call.arguments.now)))
     document c.edit_redo.new.self call.caller.follows c.edit_redo.result c.edit_redo.ensures.told)
 
-pub returns-in-EditRedo-clause-plain : goal.returns-in-EditRedo-clause-plain
-returns-in-EditRedo-clause-plain g c =
-    rw (c.edited-in-EditRedo.ensures, c.in-EditRedo.is) (plain-text c.edit_redo.result)
+pub returns-in-EditRedo-clause-unmarked : goal.returns-in-EditRedo-clause-unmarked
+returns-in-EditRedo-clause-unmarked g c =
+    rw c.edited-in-EditRedo.ensures (edited-unmarked c.edit_redo.result)
 
 pub returns-in-TagAdd-clause-does : goal.returns-in-TagAdd-clause-does
 returns-in-TagAdd-clause-does g c = λ windows.
@@ -96,9 +96,9 @@ returns-in-TagAdd-clause-tells g c = λ windows.
     (widget_at document call.caller.seat) (texts_of call.switches.now) call.position (texts_of call.arguments.now)))
     document c.tag_add.new.document call.caller.follows c.tag_add.result c.tag_add.ensures.told)
 
-pub returns-in-TagAdd-clause-plain : goal.returns-in-TagAdd-clause-plain
-returns-in-TagAdd-clause-plain g c =
-    rw (c.edited-in-TagAdd.ensures, c.in-TagAdd.is) (plain-tags c.tag_add.result c.tag_add.ensures.still)
+pub returns-in-TagAdd-clause-unmarked : goal.returns-in-TagAdd-clause-unmarked
+returns-in-TagAdd-clause-unmarked g c =
+    rw c.edited-in-TagAdd.ensures (edited-unmarked c.tag_add.result)
 
 pub returns-in-TagRemove-clause-does : goal.returns-in-TagRemove-clause-does
 returns-in-TagRemove-clause-does g c = λ windows.
@@ -112,9 +112,9 @@ returns-in-TagRemove-clause-tells g c = λ windows.
     (widget_at document call.caller.seat) (texts_of call.switches.now) call.position (texts_of call.arguments.now)))
     document c.tag_remove.new.document call.caller.follows c.tag_remove.result c.tag_remove.ensures.told)
 
-pub returns-in-TagRemove-clause-plain : goal.returns-in-TagRemove-clause-plain
-returns-in-TagRemove-clause-plain g c =
-    rw (c.edited-in-TagRemove.ensures, c.in-TagRemove.is) (plain-tags c.tag_remove.result c.tag_remove.ensures.still)
+pub returns-in-TagRemove-clause-unmarked : goal.returns-in-TagRemove-clause-unmarked
+returns-in-TagRemove-clause-unmarked g c =
+    rw c.edited-in-TagRemove.ensures (edited-unmarked c.tag_remove.result)
 
 pub returns-in-TagDelete-clause-does : goal.returns-in-TagDelete-clause-does
 returns-in-TagDelete-clause-does g c = λ windows.
@@ -128,9 +128,9 @@ returns-in-TagDelete-clause-tells g c = λ windows.
     (widget_at document call.caller.seat) (texts_of call.switches.now) call.position (texts_of call.arguments.now)))
     document c.delete_tags.new.self call.caller.follows c.delete_tags.result c.delete_tags.ensures.told)
 
-pub returns-in-TagDelete-clause-plain : goal.returns-in-TagDelete-clause-plain
-returns-in-TagDelete-clause-plain g c =
-    rw (c.edited-in-TagDelete.ensures, c.in-TagDelete.is) (plain-tags c.delete_tags.result c.delete_tags.ensures.still)
+pub returns-in-TagDelete-clause-unmarked : goal.returns-in-TagDelete-clause-unmarked
+returns-in-TagDelete-clause-unmarked g c =
+    rw c.edited-in-TagDelete.ensures (edited-unmarked c.delete_tags.result)
 
 pub answer-requires-clause-quiet : goal.answer-requires-clause-quiet
 answer-requires-clause-quiet g c =
@@ -155,10 +155,10 @@ returns-in_default-clause-tells g c = λ windows.
     c.in_default.not-TagDelete)
     (c.answer.ensures.does windows))
 
-pub returns-in_default-clause-plain : goal.returns-in_default-clause-plain
-returns-in_default-clause-plain g c =
-    subst (λ result. IfOk result (IsPlain (edits_text c.args.command))) (sym c.answered.ensures)
-    (plain-answered (edits_text c.args.command) c.answer.result)
+pub returns-in_default-clause-unmarked : goal.returns-in_default-clause-unmarked
+returns-in_default-clause-unmarked g c =
+    subst (λ made. IfOk made (λ told. told.marks ≡ [])) (sym c.answered.ensures)
+    (answered-unmarked c.answer.result)
 
 pub returns-in_default-clause-frugal : goal.returns-in_default-clause-frugal
 returns-in_default-clause-frugal g c = λ frugal.

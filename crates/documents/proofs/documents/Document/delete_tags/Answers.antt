@@ -21,4 +21,4 @@ returns-clause-does g c = λ limits.
 
 pub returns-clause-told : goal.returns-clause-told
 returns-clause-told g c = λ follows.
-    told-made (returns-clause-does g c some_limits) (c.in_ok-told.ensures.told follows)
+    told-made (returns-clause-does g c some_limits) (c.in_ok-told.ensures follows)

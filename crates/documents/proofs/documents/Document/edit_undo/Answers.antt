@@ -1,6 +1,6 @@
-use Rattle.documents.proofs.Common.{◌≡◌, ◌*◌, Some, Empty, Ok, ap, sym, subst, ◌∙◌, next_undo, Action, true, List}
-use Rattle.documents.proofs.Common.{log_of, state_of, widget_at, parts_of, edit_undo, replays, IfSome, length, AreHunks}
-use Rattle.documents.proofs.Common.{Content, is_some, Document, not, State, some_is, KnowsDelta, AreScalars}
+use Rattle.documents.proofs.Common.{box_value, ◌≡◌, ◌*◌, Some, Empty, Ok, ap, sym, subst, ◌∙◌, next_undo, Action, true}
+use Rattle.documents.proofs.Common.{List, log_of, state_of, widget_at, parts_of, edit_undo, replays, IfSome, length}
+use Rattle.documents.proofs.Common.{AreHunks, Content, is_some, Document, not, State, some_is, KnowsDelta, AreScalars}
 use Rattle.edit_ops.specs.Reversals.{undone}
 use Rattle.documents.proofs.ChangeLaws.{Leaves}
 use Rattle.documents.proofs.DeltaLaws.{known-stand, planned-made, told-planned}
@@ -64,7 +64,7 @@ pub carry_out-requires-clause-stand : goal.carry_out-requires-clause-stand
 carry_out-requires-clause-stand g c =
     let at = (goal.at.carry_out-requires-clause-stand g c).In_ok-plan in
     subst (λ (content : Content). IfSome c.in_ok-plan.plan.delta (λ delta.
-    AreHunks 0 (length content.cells) delta.hunks.items)) (sym c.in_ok-plan.ensures.same.0)
+    AreHunks 0 (length content.cells) (box_value delta).hunks.items)) (sym c.in_ok-plan.ensures.same.0)
     (known-stand c.args.caller.now.follows (replays true (found g at).0)
     (g.S.TextStore.content c.self.inside.text.store).cells
     (g.S.TextStore.outcome c.plan_undo.new.text.store c.in_ok-plan.plan.prepared).cells c.in_ok-plan.plan.delta

@@ -1,7 +1,6 @@
 use Rattle.documents.proofs.Common.{◌≡◌, ◌+◌, ◌≤◌, length, refl, sym, subst, ◌∙◌, chars, length-map, All-weaker, flags}
 use Rattle.documents.proofs.Common.{SpanFits, Span, KeyedCell, widget_at, with_tag, parts_of, Stands, key_of, AreGapped}
-use Rattle.documents.proofs.Common.{TellsSpans, TellsTags, flags_of}
-use Rattle.edit_ops.specs.Deletions.{AreApart}
+use Rattle.documents.proofs.Common.{TellsSpans, TellsTags, flags_of, AreApart}
 use Rattle.documents.proofs.AddedRunLaws.{gapped-alone}
 use Rattle.documents.proofs.PartsLaws.{sits}
 use Rattle.documents.proofs.SpanToldLaws.{runs-told, seen-flags, seen-named, seen-none}

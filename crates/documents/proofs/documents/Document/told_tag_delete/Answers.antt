@@ -1,10 +1,9 @@
-use Rattle.documents.proofs.Common.{map, sym, ap, subst, texts_of, Document, tag_delete, without_tags, TellsTags}
-use Rattle.documents.proofs.Common.{Foretells, EditTold}
+use Rattle.documents.proofs.Common.{map, sym, subst, texts_of, Document, tag_delete, without_tags, TellsTags, Foretells}
 use Rattle.documents.proofs.ToldLaws.{tags-alone}
 use Rattle.documents.proofs.documents.Document.told_tag_delete.Goals as goal
 
-pub returns-clause-told : goal.returns-clause-told
-returns-clause-told g c = λ follows.
+pub returns : goal.returns
+returns g c = λ follows.
     let document = c.args.self.now in
     let names = texts_of c.args.names.now in
     let told = c.in_ok-tags.tags in
@@ -13,6 +12,3 @@ returns-clause-told g c = λ follows.
     tags-alone told document.cells (map (without_tags names) document.cells)
     (subst (λ (d : Document). TellsTags told d.cells (map (without_tags names) d.cells)) c.self.view_is gone.0)
     gone.1)
-
-pub returns-clause-still : goal.returns-clause-still
-returns-clause-still g c = ap (λ (told : EditTold). told.changes) c.of_tags.ensures

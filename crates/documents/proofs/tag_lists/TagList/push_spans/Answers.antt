@@ -1,5 +1,4 @@
-use Rattle.documents.proofs.Common.{◌+◌, drop, length, subst, sym, length-map, flags, Cell, Span}
-use Rattle.edit_ops.specs.Deletions.{AreApart}
+use Rattle.documents.proofs.Common.{◌+◌, drop, length, subst, sym, length-map, flags, Cell, Span, AreApart}
 use Rattle.documents.proofs.AddedRunLaws.{down-all, down-more, down-none}
 use Rattle.documents.proofs.SpanToldLaws.{apart-fits, spans-then}
 use Rattle.std.specs.FinSet as set

@@ -1,5 +1,4 @@
-use Rattle.documents.proofs.Common.{◌≡◌, ◌+◌, Bool, List, ℕ, drop, length, take, false, true, All, TellsSpans}
-use Rattle.edit_ops.specs.Deletions.{AreApart}
+use Rattle.documents.proofs.Common.{◌≡◌, ◌+◌, Bool, List, ℕ, drop, length, take, false, true, All, TellsSpans, AreApart}
 use Rattle.documents.proofs.AddedRunLaws.{AddsDownTo}
 use Rattle.documents.proofs.tag_lists.TagList.push_whole.Given as goal
 

@@ -3,7 +3,7 @@ use Rattle.peers.proofs.Common.{texts_of, is_same, literal, reading, Makes, step
 use Rattle.peers.proofs.Common.{on_widget, TellsOf, MarksTellOf, TellsAt, MarksTellAt, answer_of, IsWellFormed, home}
 use Rattle.peers.proofs.Common.{IfOk-weaker, is_frugal_reading, are_frugal, Outcome}
 use Rattle.peers.specs.Told.{answered}
-use Rattle.peers.proofs.ToldLaws.{answer-answered, plain-answered}
+use Rattle.peers.proofs.ToldLaws.{answer-answered, answered-unmarked}
 use Rattle.peers.proofs.ToldStepLaws.{destroy-none, destroy-step as destroys, named, named-marks, text-none, text-step}
 use Rattle.peers.proofs.ToldStepLaws.{unnamed, widget-step}
 use Rattle.peers.proofs.world.World.carry_out.Goals.{After-create_shaped, After-destroy_shaped, After-on_widget}
@@ -59,8 +59,7 @@ returns-then-is_word-clause-marks g c = λ _.
 pub returns-then-is_word-clause-unasked : goal.returns-then-is_word-clause-unasked
 returns-then-is_word-clause-unasked g c = λ _.
     subst (λ told. IfOk told (λ told. told.marks ≡ [])) (sym c.answered.ensures)
-    (IfOk-weaker (answered c.create_shaped.result) _ _ (λ told plain. plain.marks)
-    (plain-answered false c.create_shaped.result))
+    (answered-unmarked c.create_shaped.result)
 
 pub returns-then-is_word-clause-frugal : goal.returns-then-is_word-clause-frugal
 returns-then-is_word-clause-frugal g c = λ frugal.
@@ -121,8 +120,7 @@ returns-then-is_word-2-clause-marks g c = λ _.
 pub returns-then-is_word-2-clause-unasked : goal.returns-then-is_word-2-clause-unasked
 returns-then-is_word-2-clause-unasked g c = λ _.
     subst (λ told. IfOk told (λ told. told.marks ≡ [])) (sym c.answered-then-is_word-2.ensures)
-    (IfOk-weaker (answered c.destroy_shaped.result) _ _ (λ told plain. plain.marks)
-    (plain-answered false c.destroy_shaped.result))
+    (answered-unmarked c.destroy_shaped.result)
 
 pub returns-then-is_word-2-clause-frugal : goal.returns-then-is_word-2-clause-frugal
 returns-then-is_word-2-clause-frugal g c = λ frugal.

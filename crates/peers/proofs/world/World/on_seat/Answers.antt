@@ -1,12 +1,12 @@
 use Rattle.peers.proofs.Common.{◌≡◌, ◌<◌, Some, length, slice_set, sym, ap, subst, ◌∙◌, arith, IfOk, TellsAt, answer_of}
-use Rattle.peers.proofs.Common.{arguments_of, seat_step, texts_of, Document, widget_at, Does, edits_text}
-use Rattle.peers.proofs.Common.{IsWellFormedDocument, command, peer_create, Makes, changed, World, all_windows}
-use Rattle.peers.proofs.Common.{document_at, windows_of, AreTold, Change, IsPlain, Outcome, PeerCreate}
+use Rattle.peers.proofs.Common.{arguments_of, seat_step, texts_of, Document, widget_at, Does, [], IsWellFormedDocument}
+use Rattle.peers.proofs.Common.{command, peer_create, Makes, changed, World, all_windows, document_at, windows_of}
+use Rattle.peers.proofs.Common.{AreTold, Change, Outcome, PeerCreate}
 use Rattle.peers.specs.Told.{answered}
 use Rattle.peers.proofs.ArgumentLaws.{arguments-part}
 use Rattle.peers.proofs.FrontLaws.{set-at}
 use Rattle.peers.proofs.HomeStepLaws.{does-form, does-homes, does-refuse, does-world, peer-command}
-use Rattle.peers.proofs.ToldLaws.{answer-answered, plain-answered}
+use Rattle.peers.proofs.ToldLaws.{answer-answered, answered-unmarked}
 use Rattle.peers.proofs.ToldStepLaws.{peer-tells}
 use Rattle.peers.proofs.WorldLaws.{all-at, read-is, with_all}
 use Rattle.peers.proofs.world.World.on_seat.Goals.{After-command, After-create_peer-made}
@@ -101,10 +101,10 @@ returns-in-PeerCreate-clause-tells g c = λ _.
     (arguments_of c.args.shape (texts_of c.args.words.now)) (widget_at document c.args.seat)
     c.create_peer-made.result c.requires.place (makes g at)))
 
-pub returns-in-PeerCreate-clause-plain : goal.returns-in-PeerCreate-clause-plain
-returns-in-PeerCreate-clause-plain g c =
-    subst (λ result. IfOk result (IsPlain (edits_text c.args.shape.command))) (sym c.answered.ensures)
-    (plain-answered (edits_text c.args.shape.command) c.create_peer-made.result)
+pub returns-in-PeerCreate-clause-unmarked : goal.returns-in-PeerCreate-clause-unmarked
+returns-in-PeerCreate-clause-unmarked g c =
+    subst (λ made. IfOk made (λ told. told.marks ≡ [])) (sym c.answered.ensures)
+    (answered-unmarked c.create_peer-made.result)
 
 -- what the command reports of that document, as it is in the world afterwards
 tells : (g : _) (c : After-command g) → (within : c.args.place < length c.self-in_default.inside.documents.list.items)
@@ -141,6 +141,6 @@ returns-in_default g c =
           });
       tells = λ follows. subst (λ (w : World). IfOk c.command.result (λ told. TellsAt w after (Some c.args.place)
           (seat_step w c.args.place c.args.seat words).edits told.edit)) c.self-in_default.view_is (tells g at within follows);
-      plain = c.command.ensures.plain;
+      unmarked = c.command.ensures.unmarked;
       frugal = c.command.ensures.frugal;
     }

@@ -1,6 +1,6 @@
 use Rattle.peers.proofs.Common.{◌≡◌, ◌<◌, ℕ, List, Ok, length, refl, sym, ap, subst, ◌∙◌, arith, texts_of, Document}
 use Rattle.peers.proofs.Common.{widget_at, take, drop, ◌-◌, call_of, length-set, World, all_windows, document_at}
-use Rattle.peers.proofs.Common.{CoversMarks, MarkKey, command, IsWellFormed, IsWellFormedDocument, AreCarried}
+use Rattle.peers.proofs.Common.{TakesMarksBut, MarkKey, command, done, IsWellFormed, IsWellFormedDocument, AreCarried}
 use Rattle.peers.proofs.Common.{AreOthers, AreWatched, TellsMarks, mark_at, mark_carried, switches_of, Call}
 use Rattle.peers.proofs.ArgumentLaws.{arguments-part}
 use Rattle.peers.proofs.MarksToldLaws.{carried-but}
@@ -30,13 +30,14 @@ returns-clause-marks g c =
       position = shape.arguments;
       arguments = arguments;
     } in
-    let covers : CoversMarks shape.command document (call_of world.limits (all_windows world) (widget_at document seat)
-    shape words) marks =
-    subst (λ arguments. CoversMarks shape.command document (called document arguments) marks)
+    let covers : TakesMarksBut marks document (done shape.command document
+    (call_of world.limits (all_windows world) (widget_at document seat) shape words)) =
+    subst (λ arguments. TakesMarksBut marks document (done shape.command document (called document arguments)))
     (arguments-part c.args.words.now shape)
-    (subst (λ (d : Document). CoversMarks shape.command d (called d (texts_of (take
-    (length c.args.words.now - shape.arguments) (drop shape.arguments c.args.words.now)))) marks) lent
-    (c.in_ok-marks.ensures.covers world.limits (all_windows world) (switches_of shape words) shape.arguments)) in
+    (subst (λ (d : Document). TakesMarksBut marks d (done shape.command d (called d (texts_of (take
+    (length c.args.words.now - shape.arguments) (drop shape.arguments c.args.words.now)))))) lent
+    (c.in_ok-marks.ensures.covers world.limits (all_windows world) (switches_of shape words) shape.arguments
+    (subst (IsWellFormedDocument world.limits) (sym lent) there))) in
     let made = c.in_ok-told.ensures.makes.world (value≢memory (Ok told.answer) told.answer refl) in
     let long = ap (λ (w : World). length w.documents) made in
     let set = length-set world.documents place (command world.limits (all_windows world) document
@@ -47,7 +48,7 @@ returns-clause-marks g c =
     read-is c.self-2.inside.documents.list.items place c.index-2.result.now after c.index-2.ensures
     ∙ ap (λ (w : World). document_at w.documents place) c.self-2.view_is in
     let but = carried-but world new place seat shape words told marks formed c.requires.place c.requires.shape
-    c.in_ok-told.ensures.makes (c.in_ok-told.ensures.tells refl) c.in_ok-told.ensures.plain covers in
+    c.in_ok-told.ensures.makes (c.in_ok-told.ensures.tells refl) covers in
     subst (λ (d : Document). TellsMarks told.edit.changes document d c.settle_marks.new.marks) found
     (c.settle_marks.ensures.told document watched
     (subst (λ (d : Document). AreCarried told.edit.changes document d) (sym found) but.carried)

@@ -1,7 +1,7 @@
 use Rattle.edit_ops.proofs.Common.{◌≡◌, ap, arith, subst, sym, chars, slice_range, length-map, Cell, characters}
 use Rattle.edit_ops.proofs.Common.{SpotWalk, Spot}
 use Rattle.edit_ops.proofs.SpotLaws.{room-at, spot-along}
-use Rattle.edit_ops.proofs.spot_walks.SpotWalk.along.Goals as goal
+use Rattle.edit_ops.proofs.spot_walks.SpotWalk.past.Goals as goal
 
 pub behind-requires : goal.behind-requires
 behind-requires g c =
