@@ -225,6 +225,11 @@ static void check_undo(void)
     tktext_drop(&world);
 }
 
+static int32_t call_plain(tktext *world, const char *words, const size_t *lengths, size_t count)
+{
+    return tktext_call(world, (const uint8_t *)words, strlen(words), lengths, count);
+}
+
 /* The report of the last command that was called by call_told or next_told. */
 static tktext_report report = TKTEXT_EMPTY_REPORT;
 
@@ -590,6 +595,20 @@ static double edit_lines(long count, int by_words)
     return taken;
 }
 
+/* Fills a text with so many lines, deletes it, and undoes that, with or without a report. */
+static void undo_all(long count, bool is_told)
+{
+    tktext world = TKTEXT_EMPTY;
+    must(tktext_new_greatest(&world));
+    must(call_plain(&world, "text.t-undo1", LENGTHS(4, 2, 5, 1)));
+    for (long number = 0; number < count; number++)
+        must(call_plain(&world, ".tinsertend" TEXT "\n", LENGTHS(2, 6, 3, sizeof TEXT)));
+    must(call_plain(&world, ".tdelete1.0end", LENGTHS(2, 6, 3, 3)));
+    must((is_told ? call_told : call_plain)(&world, ".teditundo", LENGTHS(2, 4, 4)));
+    tktext_drop(&world);
+    tktext_report_drop(&report);
+}
+
 /* The nanoseconds of one command: the lesser of three takes by the words and by a script, in turn. */
 static int time_both(long count)
 {
@@ -617,6 +636,11 @@ int main(int count, char **words)
         return try_refusals();
     if (count == 4 && strcmp(words[1], "edits") == 0) {
         edit_lines(strtol(words[3], NULL, 10), strcmp(words[2], "words") == 0);
+        return 0;
+    }
+    if (count == 4 && strcmp(words[1], "undo") == 0) {
+        must(tktext_report_new(&report));
+        undo_all(strtol(words[3], NULL, 10), strcmp(words[2], "told") == 0);
         return 0;
     }
     if (count == 3 && strcmp(words[1], "time") == 0)

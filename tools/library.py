@@ -17,6 +17,7 @@ has just proved (tools/build_library.py).  Without a C compiler one line says so
 - Python and Tcl with growths of memory refused (tools/refuse_calls.c): out of memory is an error of the language, and the
   command answers as ever when it is given again; in Python, those who follow a text miss no change.
 - The instructions of a command by its words and by a script, where valgrind is installed: the words cost less.
+- The memory of a report: that of an undo which brings a text back asks for that text, and for little more.
 - The examples of three languages answer alike.
 
 Ends in a line `N passed, M failed`; the exit status is 1 if anything failed.
@@ -52,6 +53,7 @@ SHARED = os.path.join(OUT, "libtktext.so")
 EXTENSION = os.path.join(OUT, "tktext.so")
 CLIENT = os.path.join(OUT, "library_client")
 REFUSED_CLIENT = os.path.join(OUT, "refused_library_client")
+ASKED = os.path.join(OUT, "asked.so")
 PYTHON = os.path.join(OUT, "python")
 REFUSED_PYTHON = os.path.join(OUT, "refused_python")
 REFUSED_EXTENSION = os.path.join(OUT, "refused_tktext.so")
@@ -61,6 +63,8 @@ PIECES = (1, 7, 4096)
 LEAK_COMMANDS = 10_000
 # How many lines are put in and taken out for the time of a command, and for its instructions.
 TIMED_LINES, COUNTED_LINES = 100_000, 2_000
+# The lines of a text that comes back, the bytes of each, and what its report may hold beside the text.
+UNDONE_LINES, LINE_BYTES, MOST_BESIDE = 100_000, 37, 1_000
 ENOUGH_FAILURES = 10
 # How many growths of a command are refused, at most.
 MOST_GROWTHS = 60
@@ -184,6 +188,25 @@ def check_instructions(tally):
     said = f"{words} instructions by its words, {script} by a script"
     print(f"a command that inserts or deletes a line: {said}")
     tally.check(words < script, f"a command takes {said}")
+
+
+def most_held(way):
+    """The most bytes that are asked for at once where a whole text is deleted and comes back."""
+    report = os.path.join(OUT, "weight")
+    environment = dict(os.environ, LD_PRELOAD=ASKED, WEIGHT_REPORT=report)
+    _, status, errors = run([CLIENT, "undo", way, str(UNDONE_LINES)], env=environment)
+    if status != 0:
+        raise RuntimeError(f"a text that comes back: status {status}, {errors[-600:]!r}")
+    with open(report, encoding="ascii") as file:
+        return int(file.read().split()[2])
+
+
+def check_report(tally):
+    """The report of an undo that brings a text back asks for that text, and for little more."""
+    subprocess.run(["cc", "-DASKED", "-shared", "-fPIC", "-O1", "-o", ASKED, source("tools", "weigh.c")], check=True)
+    more = most_held("told") - most_held("plain")
+    print(f"a report of an undo of {UNDONE_LINES} lines holds {more} bytes, {UNDONE_LINES * LINE_BYTES} of them text")
+    tally.check(0 <= more - UNDONE_LINES * LINE_BYTES < MOST_BESIDE, f"a report of an undo holds {more} bytes")
 
 
 def write_times(file):
@@ -727,6 +750,7 @@ def main():
         check_c_script(f"seed {seed}", scripts.script(seed), PIECES, tally)
     check_leaks(tally)
     check_instructions(tally)
+    check_report(tally)
     check_python(options.seeds, tally)
     if has_tcl:
         check_tcl(options.seeds, tally)
