@@ -111,7 +111,8 @@ pub use Rattle.std.proofs.lemmas.Str.{encodes-chars}
 pub use Rattle.std.specs.List.{All, AllByRecursion, IsDistinct}
 pub use Rattle.std.specs.Map.{keys_of, lookup, values_of}
 pub use Rattle.std.specs.Option.{option_map_or}
-pub use Rattle.std.specs.Prelude.{ℤ, ⊤, OnErr, OnOk, bytes_eq, negsuc, option_and_then, pos, position, slice_index_or}
+pub use Rattle.std.specs.Prelude.{ℤ, ⊤, IsErr, IsErrAnd, OnErr, OnOk, bytes_eq, negsuc, option_and_then, pos, position}
+pub use Rattle.std.specs.Prelude.{slice_index_or}
 pub use Rattle.tcl_words.specs.ListGrowth.{Goes}
 pub use Rattle.tcl_words.specs.Unread.{texts_of}
 pub use Rattle.text_model.specs.LimitTable.{AreLimits, LimitTable}

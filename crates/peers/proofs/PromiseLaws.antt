@@ -1,6 +1,6 @@
 -- How a promise goes through a command, word by word.
 use Rattle.peers.proofs.Common.{◌≡◌, ◌≢◌, refl, sym, ap, ◌∙◌, Result, Ok, Err, LimitTable, Answer, Fault, Memory}
-use Rattle.peers.proofs.Common.{Document, with_value, Change, Gives, Does, change_with}
+use Rattle.peers.proofs.Common.{Document, with_value, Change, Gives, Does, change_with, IsErr, IsErrAnd}
 
 -- what is refused for memory is refused for memory
 abbrev pub refusal : (A : Type 0) → Fault → Result A Fault
@@ -96,6 +96,12 @@ does-refused limits old defined fault next is = record {
   well_formed = λ formed. formed;
   windows = refl;
 }
+
+-- what `?` returns of a fault
+pub faulted : {A : Type 0} (result : Result A Fault) (fault : Fault)
+    → IsErr result × IsErrAnd result (λ other. other ≡ fault) → result ≡ Err fault
+faulted (Ok value) fault is = absurd is.1
+faulted (Err other) fault is = ap Err is.1
 
 -- the fault that was found is the one that is defined
 pub fault-defined : {A : Type 0} (found defined : Result A Fault) (fault : Fault) → Gives found defined →

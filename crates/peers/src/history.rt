@@ -22,10 +22,8 @@ fn set_modified_by<S: TextStore>(
         (modified_set document.old)) }
     ensures frugal { result ≢ Err Memory }
 {
-    match boolean_at(position, word) {
-        Err(fault) => Err(fault),
-        Ok(modified) => Ok(document.set_modified(modified)),
-    }
+    let modified = boolean_at(position, word)?;
+    Ok(document.set_modified(modified))
 }
 
 fn modified_word<S: TextStore>(
@@ -53,8 +51,6 @@ pub fn edit_modified<S: TextStore>(
         (edit_modified document.old position (texts_of arguments.now)) }
     ensures frugal { result ≢ Err Memory }
 {
-    match none_or_one(arguments) {
-        Err(fault) => Err(fault),
-        Ok(word) => modified_word(document, position, word),
-    }
+    let word = none_or_one(arguments)?;
+    modified_word(document, position, word)
 }

@@ -47,10 +47,8 @@ fn show_place<S: TextStore>(
     requires within { IfOk place (λ place. place ≤ length (shown document.now (widget_at document.now seat))) }
     ensures { Gives result (with_value place (position_answer document.now (widget_at document.now seat))) }
 {
-    match place {
-        Err(fault) => Err(fault),
-        Ok(place) => Ok(Answer::Text(document.position_of(seat, place)?)),
-    }
+    let place = place?;
+    Ok(Answer::Text(document.position_of(seat, place)?))
 }
 
 fn index_of<S: TextStore>(
@@ -75,10 +73,8 @@ pub fn index<S: TextStore>(
     requires shown { seat < length document.now.widgets }
     ensures { Gives result (index document.now (widget_at document.now seat) position (texts_of arguments.now)) }
 {
-    match one(arguments) {
-        Err(fault) => Err(fault),
-        Ok(word) => index_of(document, seat, position, word),
-    }
+    let word = one(arguments)?;
+    index_of(document, seat, position, word)
 }
 
 fn compared_at<S: TextStore>(
@@ -115,8 +111,6 @@ pub fn compare<S: TextStore>(
     requires near { position + 2 ≤ usize.MAX }
     ensures { Gives result (compare document.now (widget_at document.now seat) position (texts_of arguments.now)) }
 {
-    match three(arguments) {
-        Err(fault) => Err(fault),
-        Ok((left, operator, right)) => compared_at(document, seat, position, left, operator, right),
-    }
+    let (left, operator, right) = three(arguments)?;
+    compared_at(document, seat, position, left, operator, right)
 }

@@ -142,10 +142,8 @@ pub fn mark_gravity<S: TextStore>(
     ensures { (limits : LimitTable) → Does limits document.old document.new result
         (mark_gravity document.old (widget_at document.old seat) position (texts_of arguments.now)) }
 {
-    match one_or_two(arguments) {
-        Err(fault) => Err(fault),
-        Ok((name, word)) => gravity_words(document, seat, position, name, word),
-    }
+    let (name, word) = one_or_two(arguments)?;
+    gravity_words(document, seat, position, name, word)
 }
 
 /// `W mark names` (text(n), "mark names").
@@ -198,10 +196,7 @@ fn origin_at<S: TextStore>(
 {
     match document.find_mark(word) {
         Some(mark) => origin_marked(document, seat, position, mark),
-        None => match document.place_at(seat, position, word) {
-            Err(fault) => Err(fault),
-            Ok(place) => Ok(Origin::Place(place)),
-        },
+        None => Ok(Origin::Place(document.place_at(seat, position, word)?)),
     }
 }
 
@@ -213,10 +208,8 @@ fn next_from<S: TextStore>(
     requires shown { seat < length document.now.widgets }
     ensures { Gives result (with_value origin (next_from document.now (widget_at document.now seat))) }
 {
-    match origin {
-        Err(fault) => Err(fault),
-        Ok(origin) => mark_answer(document, document.next_mark(seat, origin)),
-    }
+    let origin = origin?;
+    mark_answer(document, document.next_mark(seat, origin))
 }
 
 fn previous_from<S: TextStore>(
@@ -227,10 +220,8 @@ fn previous_from<S: TextStore>(
     requires shown { seat < length document.now.widgets }
     ensures { Gives result (with_value origin (previous_from document.now (widget_at document.now seat))) }
 {
-    match origin {
-        Err(fault) => Err(fault),
-        Ok(origin) => mark_answer(document, document.previous_mark(seat, origin)),
-    }
+    let origin = origin?;
+    mark_answer(document, document.previous_mark(seat, origin))
 }
 
 fn next_at<S: TextStore>(
@@ -267,10 +258,8 @@ pub fn mark_next<S: TextStore>(
     requires shown { seat < length document.now.widgets }
     ensures { Gives result (mark_next document.now (widget_at document.now seat) position (texts_of arguments.now)) }
 {
-    match one(arguments) {
-        Err(fault) => Err(fault),
-        Ok(word) => next_at(document, seat, position, word),
-    }
+    let word = one(arguments)?;
+    next_at(document, seat, position, word)
 }
 
 /// `W mark previous I` (text(n), "mark previous"). The argument stands at a position.
@@ -284,10 +273,8 @@ pub fn mark_previous<S: TextStore>(
     ensures { Gives result
         (mark_previous document.now (widget_at document.now seat) position (texts_of arguments.now)) }
 {
-    match one(arguments) {
-        Err(fault) => Err(fault),
-        Ok(word) => previous_at(document, seat, position, word),
-    }
+    let word = one(arguments)?;
+    previous_at(document, seat, position, word)
 }
 
 /// Returns the marks that a command of a widget may displace, as they are before it: by what it does, or by the names

@@ -28,10 +28,8 @@ pub fn settings_given(
     ensures lines { IfOk result (AreLines lines) }
     ensures ordered { IfOk result (λ settings. is_behind settings.start settings.end ≡ false) }
 {
-    match settings.read(position, words, lines) {
-        Err(fault) => Err(fault),
-        Ok(settings) => settings.checked(),
-    }
+    let settings = settings.read(position, words, lines)?;
+    settings.checked()
 }
 
 /// `W configure option value ?option value ..?` (text(n), "configure"). The first option stands at a position.
@@ -46,10 +44,8 @@ pub fn configure<S: TextStore>(
     ensures { (limits : LimitTable) → Does limits document.old document.new result
         (configure document.old (widget_at document.old seat) position (texts_of words.now)) }
 {
-    match settings_given(document.settings(seat), position, words, document.lines()) {
-        Err(fault) => Err(fault),
-        Ok(settings) => Ok(document.put_settings(seat, settings)),
-    }
+    let settings = settings_given(document.settings(seat), position, words, document.lines())?;
+    Ok(document.put_settings(seat, settings))
 }
 
 /// The value of an option. The name is one of the options.
@@ -74,8 +70,6 @@ pub fn cget<S: TextStore>(
     requires shown { seat < length document.now.widgets }
     ensures { Gives result (cget document.now (widget_at document.now seat) (texts_of words.now)) }
 {
-    match one(words) {
-        Err(fault) => Err(fault),
-        Ok(option) => setting(document, seat, option),
-    }
+    let option = one(words)?;
+    setting(document, seat, option)
 }

@@ -142,10 +142,7 @@ fn stop_at<S: TextStore>(
 {
     match word {
         None => Ok(None),
-        Some(word) => match document.place_at(seat, position, word) {
-            Err(fault) => Err(fault),
-            Ok(place) => Ok(Some(place)),
-        },
+        Some(word) => Ok(Some(document.place_at(seat, position, word)?)),
     }
 }
 
@@ -209,10 +206,8 @@ pub fn search<S: TextStore>(
     ensures { Gives result (search document.now (widget_at document.now seat) (texts_of switches.now) position
         (texts_of arguments.now)) }
 {
-    match two_or_three(arguments) {
-        Err(fault) => Err(fault),
-        Ok(words) => search_words(document, seat, search_switches(switches), position, words),
-    }
+    let words = two_or_three(arguments)?;
+    search_words(document, seat, search_switches(switches), position, words)
 }
 
 /// How much further one place is than another.
@@ -269,13 +264,9 @@ pub fn count<S: TextStore>(
     ensures { Gives result (count document.now (widget_at document.now seat) (texts_of options.now) position
         (texts_of arguments.now)) }
 {
-    match two(arguments) {
-        Err(fault) => Err(fault),
-        Ok((first, second)) => {
-            let options = counted_options(document.allocator(), options)?;
-            count_words(document, seat, &options, position, first, second)
-        }
-    }
+    let (first, second) = two(arguments)?;
+    let options = counted_options(document.allocator(), options)?;
+    count_words(document, seat, &options, position, first, second)
 }
 
 /// The place after that of a character, or the end.
@@ -306,19 +297,15 @@ fn dump_from<S: TextStore>(
         (option_map (λ word. chars word.now) last.entry))
         (dumped document.now (widget_at document.now seat) listed from))) }
 {
-    match from {
-        Err(fault) => Err(fault),
-        Ok(from) => {
-            let to = place_or(
-                document,
-                seat,
-                place_behind(document, seat, from),
-                position,
-                last,
-            );
-            dumped(document, seat, listed, from, to)
-        }
-    }
+    let from = from?;
+    let to = place_or(
+        document,
+        seat,
+        place_behind(document, seat, from),
+        position,
+        last,
+    );
+    dumped(document, seat, listed, from, to)
 }
 
 fn dumped<S: TextStore>(
@@ -333,10 +320,8 @@ fn dumped<S: TextStore>(
     requires to { IfOk to (λ to. to ≤ length (shown document.now (widget_at document.now seat))) }
     ensures { Gives result (with_value to (dumped document.now (widget_at document.now seat) listed from)) }
 {
-    match to {
-        Err(fault) => Err(fault),
-        Ok(to) => Ok(Answer::Text(document.elements_of(seat, listed, from, to)?)),
-    }
+    let to = to?;
+    Ok(Answer::Text(document.elements_of(seat, listed, from, to)?))
 }
 
 fn dump_words<S: TextStore>(
@@ -371,8 +356,6 @@ pub fn dump<S: TextStore>(
     ensures { Gives result (dump document.now (widget_at document.now seat) (texts_of switches.now) position
         (texts_of arguments.now)) }
 {
-    match one_or_two(arguments) {
-        Err(fault) => Err(fault),
-        Ok((first, last)) => dump_words(document, seat, listed_by(switches), position, first, last),
-    }
+    let (first, last) = one_or_two(arguments)?;
+    dump_words(document, seat, listed_by(switches), position, first, last)
 }

@@ -28,10 +28,8 @@ pub fn places_at<S: TextStore>(
 {
     let mut places = Vec::with_capacity(document.allocator(), words.len())?;
     for (index, word) in words.iter().enumerate() {
-        match document.place_at(seat, position + index, word.as_str()) {
-            Err(fault) => return Err(fault),
-            Ok(place) => places.push(place)?,
-        }
+        let place = document.place_at(seat, position + index, word.as_str())?;
+        places.push(place)?
     }
     Ok(places)
 }

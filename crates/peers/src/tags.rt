@@ -66,10 +66,8 @@ fn names_on<S: TextStore>(
     requires within { IfOk place (λ place. place ≤ length (shown document.now (widget_at document.now seat))) }
     ensures { Gives result (with_value place (names_on document.now (widget_at document.now seat))) }
 {
-    match place {
-        Err(fault) => Err(fault),
-        Ok(place) => Ok(Answer::Text(document.tags_on(seat, place)?)),
-    }
+    let place = place?;
+    Ok(Answer::Text(document.tags_on(seat, place)?))
 }
 
 fn names_at_word<S: TextStore>(
@@ -98,10 +96,8 @@ pub fn tag_names<S: TextStore>(
     requires shown { seat < length document.now.widgets }
     ensures { Gives result (tag_names document.now (widget_at document.now seat) position (texts_of arguments.now)) }
 {
-    match none_or_one(arguments) {
-        Err(fault) => Err(fault),
-        Ok(word) => names_at_word(document, seat, position, word),
-    }
+    let word = none_or_one(arguments)?;
+    names_at_word(document, seat, position, word)
 }
 
 fn listed_ranges<S: TextStore>(
@@ -124,10 +120,8 @@ pub fn tag_ranges<S: TextStore>(
     requires shown { seat < length document.now.widgets }
     ensures { Gives result (tag_ranges_of document.now (widget_at document.now seat) (texts_of arguments.now)) }
 {
-    match one(arguments) {
-        Err(fault) => Err(fault),
-        Ok(name) => listed_ranges(document, seat, name),
-    }
+    let name = one(arguments)?;
+    listed_ranges(document, seat, name)
 }
 
 /// The place of a last index, or another one where it is left out.
@@ -200,10 +194,8 @@ pub fn tag_nextrange<S: TextStore>(
     ensures { Gives result
         (tag_nextrange document.now (widget_at document.now seat) position (texts_of arguments.now)) }
 {
-    match two_or_three(arguments) {
-        Err(fault) => Err(fault),
-        Ok((name, first, last)) => next_words(document, seat, position, name, first, last),
-    }
+    let (name, first, last) = two_or_three(arguments)?;
+    next_words(document, seat, position, name, first, last)
 }
 
 /// The last range of a tag that begins before one place, if it doesn't begin before another.
@@ -256,10 +248,8 @@ pub fn tag_prevrange<S: TextStore>(
     ensures { Gives result
         (tag_prevrange document.now (widget_at document.now seat) position (texts_of arguments.now)) }
 {
-    match two_or_three(arguments) {
-        Err(fault) => Err(fault),
-        Ok((name, first, last)) => previous_words(document, seat, position, name, first, last),
-    }
+    let (name, first, last) = two_or_three(arguments)?;
+    previous_words(document, seat, position, name, first, last)
 }
 
 /// `W tag raise T ?U?` (text(n), "tag raise"). The arguments stand from a position on.
@@ -272,10 +262,8 @@ pub fn tag_raise<S: TextStore>(
     ensures { (limits : LimitTable) → Does limits document.old document.new result
         (tag_raise document.old position (texts_of arguments.now)) }
 {
-    match one_or_two(arguments) {
-        Err(fault) => Err(fault),
-        Ok((name, above)) => document.raise(position, name, above),
-    }
+    let (name, above) = one_or_two(arguments)?;
+    document.raise(position, name, above)
 }
 
 /// `W tag lower T ?U?` (text(n), "tag lower"). The arguments stand from a position on.
@@ -288,8 +276,6 @@ pub fn tag_lower<S: TextStore>(
     ensures { (limits : LimitTable) → Does limits document.old document.new result
         (tag_lower document.old position (texts_of arguments.now)) }
 {
-    match one_or_two(arguments) {
-        Err(fault) => Err(fault),
-        Ok((name, below)) => document.lower(position, name, below),
-    }
+    let (name, below) = one_or_two(arguments)?;
+    document.lower(position, name, below)
 }

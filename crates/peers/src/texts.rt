@@ -116,8 +116,6 @@ pub fn get<S: TextStore>(
     requires near { position + length arguments.now ≤ usize.MAX }
     ensures { Gives result (get document.now (widget_at document.now seat) position (texts_of arguments.now)) }
 {
-    match places_at(document, seat, position, arguments) {
-        Err(fault) => Err(fault),
-        Ok(places) => got(document, seat, &places),
-    }
+    let places = places_at(document, seat, position, arguments)?;
+    got(document, seat, &places)
 }

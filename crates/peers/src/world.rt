@@ -119,10 +119,8 @@ impl<S: TextStore> World<S> {
         if !is_window_name(name.as_str()) {
             return Err(Fault::InvalidCommandName(1));
         }
-        match settings_given(Settings::new(), 2, options, 1) {
-            Err(fault) => Err(fault),
-            Ok(settings) => self.create_named(name.as_str(), settings),
-        }
+        let settings = settings_given(Settings::new(), 2, options, 1)?;
+        self.create_named(name.as_str(), settings)
     }
 
     /// `text W ?option value ..?`, of all its words.
@@ -208,17 +206,12 @@ impl<S: TextStore> World<S> {
     {
         // Read first, so that every return knows that the world is well formed.
         let document = &self.documents.list[place];
-        let (name, words) = match first(arguments) {
-            Err(fault) => return Err(fault),
-            Ok(parts) => parts,
-        };
+        let (name, words) = first(arguments)?;
         if !is_window_name(name) {
             return Err(Fault::InvalidCommandName(position));
         }
-        match peer_settings(document, seat, position + 1, words) {
-            Err(fault) => Err(fault),
-            Ok(settings) => self.add_peer(place, position, name, settings),
-        }
+        let settings = peer_settings(document, seat, position + 1, words)?;
+        self.add_peer(place, position, name, settings)
     }
 
     /// A command of the widget at a seat of the document at a place, of all its words, which have this shape. Where the

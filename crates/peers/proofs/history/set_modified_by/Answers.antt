@@ -1,4 +1,4 @@
 use Rattle.peers.proofs.history.set_modified_by.Goals as goal
 
-pub returns-in-Ok-clause-does : goal.returns-in-Ok-clause-does
-returns-in-Ok-clause-does g c = λ limits. rw (← c.in-Ok.ensures) (c.set_modified.ensures limits)
+pub returns-clause-does : goal.returns-clause-does
+returns-clause-does g c = λ limits. rw (← c.in_ok-modified.ensures) (c.set_modified.ensures limits)

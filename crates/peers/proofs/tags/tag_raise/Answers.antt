@@ -1,4 +1,4 @@
 use Rattle.peers.proofs.tags.tag_raise.Goals as goal
 
-pub returns-in-Ok : goal.returns-in-Ok
-returns-in-Ok g c = λ limits. rw c.in-Ok.ensures.ok (c.raise.ensures limits)
+pub returns : goal.returns
+returns g c = λ limits. rw c.in_ok-name.ensures.ok (c.raise.ensures limits)

@@ -1,41 +1,46 @@
 use Rattle.peers.proofs.Common.{◌≡◌, ◌+◌, ◌<◌, length, true, sym, ap, subst, ◌∙◌, chars, texts_of, Document, widget_at}
 use Rattle.peers.proofs.Common.{is_window_name, settings_given, Makes, changed, IsWellFormed, peer_settings, World}
-use Rattle.peers.proofs.Common.{all_windows, document_at}
+use Rattle.peers.proofs.Common.{all_windows, document_at, peer_create}
 use Rattle.peers.proofs.MakesLaws.{changed-refuses, makes-refused}
 use Rattle.peers.proofs.PeerLaws.{bad-peer, good-peer}
+use Rattle.peers.proofs.PromiseLaws.{faulted}
 use Rattle.peers.proofs.WorldLaws.{read-is}
 use Rattle.peers.proofs.world.World.create_peer.Goals as goal
 
-pub returns-in-Err-peer_settings : goal.returns-in-Err-peer_settings
-returns-in-Err-peer_settings g c =
+pub returns-in_err-settings : goal.returns-in_err-settings
+returns-in_err-settings g c =
     let world = c.args.self.now in let document = document_at world.documents c.args.place in
-    let options = texts_of c.in-Ok.parts.1.now in
+    let options = texts_of c.in_ok-name.words.now in
     let within = subst (λ (w : World). c.args.place < length w.documents) (sym c.self.view_is) c.requires.place in
     let read = read-is c.self.inside.documents.list.items c.args.place c.index-document.result.now within
     c.index-document.ensures ∙ ap (λ (w : World). document_at w.documents c.args.place) c.self.view_is in
     let given = ap (λ (d : Document). settings_given d (c.args.position + 1) options
     (peer_settings d (widget_at d c.args.seat))) (sym read) ∙ sym c.peer_settings.ensures.value in
-    let named : is_window_name (chars c.in-Ok.parts.0.now) ≡ true = sym c.is_window_name.ensures
+    let named : is_window_name (chars c.in_ok-name.name.now) ≡ true = sym c.is_window_name.ensures
     ∙ c.if-not-is_window_name.false in
     let change = bad-peer world.limits (all_windows world) document (widget_at document c.args.seat) c.args.position
-    (texts_of c.args.arguments.now) (chars c.in-Ok.parts.0.now) options c.in-Ok.ensures.ok
-    c.in-Err-peer_settings.fault named (given ∙ c.in-Err-peer_settings.is) in
-    makes-refused world c.in-Err-peer_settings.fault _ (subst IsWellFormed c.self.view_is c.self.invariant.0)
-    (ap (changed world c.args.place) change ∙ changed-refuses world c.args.place c.in-Err-peer_settings.fault)
+    (texts_of c.args.arguments.now) (chars c.in_ok-name.name.now) options c.in_ok-name.ensures.ok
+    c.in_err-settings.field-0.0 named (given ∙ c.in_err-settings.was) in
+    let outcome = changed world c.args.place (peer_create world.limits (all_windows world) document
+    (widget_at document c.args.seat) c.args.position (texts_of c.args.arguments.now)) in
+    subst (λ result. Makes world world result outcome) (sym (faulted c.from_residual-in_err-settings.result
+    c.in_err-settings.field-0.0 c.from_residual-in_err-settings.ensures))
+    (makes-refused world c.in_err-settings.field-0.0 outcome (subst IsWellFormed c.self.view_is c.self.invariant.0)
+    (ap (changed world c.args.place) change ∙ changed-refuses world c.args.place c.in_err-settings.field-0.0))
 
-pub returns-in-Ok-peer_settings : goal.returns-in-Ok-peer_settings
-returns-in-Ok-peer_settings g c =
+pub returns : goal.returns
+returns g c =
     let world = c.args.self.now in let document = document_at world.documents c.args.place in
-    let options = texts_of c.in-Ok.parts.1.now in
+    let options = texts_of c.in_ok-name.words.now in
     let within = subst (λ (w : World). c.args.place < length w.documents) (sym c.self.view_is) c.requires.place in
     let read = read-is c.self.inside.documents.list.items c.args.place c.index-document.result.now within
     c.index-document.ensures ∙ ap (λ (w : World). document_at w.documents c.args.place) c.self.view_is in
     let given = ap (λ (d : Document). settings_given d (c.args.position + 1) options
     (peer_settings d (widget_at d c.args.seat))) (sym read) ∙ sym c.peer_settings.ensures.value in
-    let named : is_window_name (chars c.in-Ok.parts.0.now) ≡ true = sym c.is_window_name.ensures
+    let named : is_window_name (chars c.in_ok-name.name.now) ≡ true = sym c.is_window_name.ensures
     ∙ c.if-not-is_window_name.false in
     let change = good-peer world.limits (all_windows world) document (widget_at document c.args.seat) c.args.position
-    (texts_of c.args.arguments.now) (chars c.in-Ok.parts.0.now) options c.in-Ok.ensures.ok
-    c.in-Ok-peer_settings.settings named (given ∙ c.in-Ok-peer_settings.is) in
+    (texts_of c.args.arguments.now) (chars c.in_ok-name.name.now) options c.in_ok-name.ensures.ok
+    c.in_ok-settings.settings named (given ∙ c.in_ok-settings.was) in
     subst (Makes world c.add_peer.new.self c.add_peer.result) (sym (ap (changed world c.args.place) change))
     c.add_peer.ensures
