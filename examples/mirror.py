@@ -1,10 +1,11 @@
 #!/usr/bin/env python3
-"""Copies of a text that follow it by its reports alone: a string, and a text of another world with its tags and marks.
+"""Copies of a text that follow it by its reports alone: a string, a text of another world with its tags and marks, and
+the insertion cursors of its peers.
 
     python3 examples/mirror.py        where the package is installed by `pip install .`
 """
 
-from tktext import Change, MarkChange, TagChange, Text
+from tktext import Change, MarkChange, Position, TagChange, Text
 
 
 class Mirror:
@@ -21,6 +22,8 @@ class Mirror:
         for _, mark, place in text.dump("1.0", "end", mark=True):
             self.copy.mark_set(mark, place)
             self.copy.mark_gravity(mark, text.mark_gravity(mark))
+        # The `insert` and `current` of each peer, by its name, from the first report of them on.
+        self.peers: "dict[tuple[str, str], Position]" = {}
         self.stops = [
             text.on_change(self.follow), text.on_tags(self.follow_tags), text.on_marks(self.follow_marks),
         ]
@@ -33,6 +36,7 @@ class Mirror:
         for change in changes:
             self.string = change.made_in(self.string)
             self.make_in_copy(change)
+        self.peers = {key: place.moved_by(changes) for key, place in self.peers.items()}
 
     def make_in_copy(self, change: Change) -> None:
         # A spot is an index once it is a string: its line, and its column there.
@@ -54,12 +58,19 @@ class Mirror:
         # The copy's changes move its marks as the text's do, so only what they don't do is reported.
         for change in changes:
             if change.widget not in ("", self.name):
-                continue
-            if change.new is None:
+                self.follow_peer(change)
+            elif change.new is None:
                 self.copy.mark_unset(change.mark)
             else:
                 self.copy.mark_set(change.mark, f"1.0 + {change.new.offset} chars")
                 self.copy.mark_gravity(change.mark, change.new.gravity)
+
+    def follow_peer(self, change: MarkChange) -> None:
+        # A peer's marks are new with it, and gone once it is destroyed.
+        if change.new is None:
+            self.peers.pop((change.widget, change.mark), None)
+        else:
+            self.peers[change.widget, change.mark] = change.new
 
 
 def ranges_of(text: Text, tag: str) -> "list[tuple[str, str]]":
@@ -82,3 +93,7 @@ if __name__ == "__main__":
     print(repr(mirror.string), mirror.copy.get("1.0", "end") == text.get("1.0", "end"))
     print(ranges_of(text, "bold"), ranges_of(mirror.copy, "bold"))
     print(text.index("here"), mirror.copy.index("here"))
+    peer.mark_set("insert", "end")
+    print(mirror.peers[".peer", "insert"])
+    peer.destroy()
+    print(mirror.peers)

@@ -100,7 +100,8 @@ int32_t tktext_call_told(tktext *handle, bool marks, const uint8_t *bytes, size_
                          size_t count);
 
 /* A report: what one command changed, in memory of its own.  It begins as TKTEXT_EMPTY_REPORT, and is dropped once by
-   tktext_report_drop; what holds of a handle holds of it too.  It has three lists:
+   tktext_report_drop; what holds of a handle holds of it too.  tktext_told_to returns which widgets it concerns.  It
+   has three lists:
    - Changes of the text: at an offset, `removed` characters were deleted and others were inserted in their place.  Each
      is a change of the text that those before it leave.  Applied in order to the old characters they give the new ones.
      They are exactly what the command does: characters that stay are neither deleted nor inserted again, the last
@@ -114,7 +115,9 @@ int32_t tktext_call_told(tktext *handle, bool marks, const uint8_t *bytes, size_
      - A mark after the deleted characters moves left by their number; one among them moves to the offset of the change.
      - Then a mark after that offset moves right by the number of inserted characters, and so does a mark at that offset
        if its gravity is right.
-     `destroy` isn't a command of a widget, so the marks of a destroyed widget aren't reported. */
+   `destroy` reports the `insert` and `current` of each widget that it destroys, as marks that are gone, text by text;
+   they may be of several texts (tktext_told_mark_to).  It doesn't report the shared marks of a text that goes with its
+   last widget, or the `sel` of the destroyed widgets. */
 typedef struct tktext_report {
     bool full;
     struct tktext_kept kept;
@@ -130,6 +133,12 @@ int32_t tktext_report_new(tktext_report *report);
    TKTEXT_WRONG_HANDLE, with nothing changed, if the world or the report is empty.  Nothing that the world does later
    changes the report. */
 int32_t tktext_take_report(tktext *handle, tktext_report *report);
+
+/* Returns 1 if a report concerns a widget, by the widget's name in UTF-8, and else 0: the report of a widget's command
+   concerns each widget that shows the same text, and that of `destroy` each one that still shows a text that lost a
+   widget.  The report is one that was just taken, before the world carries out another command.  Nothing changes, and
+   nothing is allocated.  0 also if there is no such widget, or the world or the report is empty. */
+int32_t tktext_told_to(tktext *handle, tktext_report *report, const uint8_t *widget, size_t size);
 
 /* Drops the report, if there is one, and leaves it TKTEXT_EMPTY_REPORT. */
 void tktext_report_drop(tktext_report *report);
@@ -220,6 +229,11 @@ enum {
 
 /* Returns the gravity of a mark; -1 if the mark isn't there, or there is no such mark. */
 int32_t tktext_told_mark_gravity(tktext_report *report, size_t mark, size_t end);
+
+/* Returns 1 if a mark is one of the text of a widget that the report concerns, by the widget's name in UTF-8, and else
+   0.  Only `destroy` reports marks of several texts; after a widget's command it returns 1 for each mark.  It may be
+   called at any time.  0 also if there is no such mark. */
+int32_t tktext_told_mark_to(tktext_report *report, size_t mark, const uint8_t *widget, size_t size);
 
 /* Whether `edit undo` would find something to undo in the text that a widget shows, by the widget's name in UTF-8, as Tk's
    `edit canundo` tells: 1 or 0, and -1 where no widget has the name.  Nothing changes, what was said last neither. */

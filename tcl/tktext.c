@@ -19,7 +19,7 @@
    - of marks, each a list {mark widget old new}: a mark that is elsewhere than the changes of the text take it, has
      another gravity, is new, or is gone.  `widget` is the name of the widget whose `insert` or `current` it is, or
      empty.  `old` and `new` are lists {offset gravity}: where the mark was before the command, and is after it; one is
-     empty if the mark is new, or gone.  The marks of a destroyed widget aren't reported.
+     empty if the mark is new, or gone, as the marks of a destroyed peer are.
    Offsets are from the start of the text, in characters as Tcl counts them: one above U+FFFF counts as two in Tcl 8.6.
    An empty prefix ends this; without a prefix the command returns the one that is set.
 
@@ -46,6 +46,9 @@
 #define MOST_FIXED 16
 #define FIXED_BYTES 1024
 
+/* The maximum number of widgets of a world (tktext_new_greatest). */
+#define MOST_WIDGETS 64
+
 /* What Tcl's converter of texts wants behind a text's last byte. */
 #define SLACK 16
 
@@ -60,10 +63,13 @@ typedef struct Report Report;
 
 /* One world, and its widgets that have a command, newest first. */
 typedef struct World {
+    Tcl_Interp *interp;
     tktext handle;
     Widget *widgets;
     /* How many hold the world: the package's five commands, each widget, and a delivery of reports. */
     int holders;
+    /* How many followers of marks there are. */
+    int mark_followers;
     /* How many widgets and reports have been made so far. */
     uint64_t widgets_made, reports_made;
     /* An empty report for the next command that needs one, or NULL. */
@@ -108,15 +114,22 @@ struct Widget {
     Tcl_Command command;
     int state;
     Follower followers[WAYS];
+    /* The name in UTF-8. */
+    size_t size;
+    char utf8[];
 };
 
 /* What one command changed.  It is allocated before the command, and dropped after all its followers were called. */
 struct Report {
     tktext_report changes;
     Report *next;
+    /* The document of the command's widget; NULL for `destroy`, whose marks may be of several. */
     Document *document;
     /* Which of the world's reports it is. */
     uint64_t number;
+    /* The numbers of the widgets that it concerns. */
+    int concerned_count;
+    uint64_t concerned[MOST_WIDGETS];
     /* Whether one of its texts was found to be one that Tcl can't hold. */
     int is_too_long;
 };
@@ -152,6 +165,11 @@ static void let_go(void *data)
         return;
     if (world->ready != NULL)
         drop_report(world->ready);
+    while (world->first != NULL) {
+        Report *report = world->first;
+        world->first = report->next;
+        drop_report(report);
+    }
     tktext_drop(&world->handle);
     free(world);
 }
@@ -384,10 +402,11 @@ static void note_wide(Document *document, const uint8_t *words, size_t size, siz
             document->has_wide = words[at] >= 0xf0;
 }
 
-/* Whether a document's commands are reported: to followers, or to know where its wide characters are. */
-static int is_reported(const Document *document)
+/* Whether a command is reported: of a document to its followers, or to know where its wide characters are; or, with
+   NULL, `destroy` to those who follow marks. */
+static int is_reported(const World *world, const Document *document)
 {
-    return document->has_wide || document->followers > 0;
+    return document == NULL ? world->mark_followers > 0 : document->has_wide || document->followers > 0;
 }
 
 /* Makes the report for the next command, unless there is one; returns 0 if out of memory. */
@@ -398,7 +417,7 @@ static int make_ready(World *world)
     Report *report = malloc(sizeof *report);
     if (report == NULL)
         return 0;
-    *report = (Report){TKTEXT_EMPTY_REPORT, NULL, NULL, 0, 0};
+    *report = (Report){.changes = TKTEXT_EMPTY_REPORT};
     if (tktext_report_new(&report->changes) != TKTEXT_ANSWER) {
         free(report);
         return 0;
@@ -407,7 +426,18 @@ static int make_ready(World *world)
     return 1;
 }
 
-/* Moves what a command changed of a document out of the world, into the queue of reports. */
+/* Notes which widgets a report concerns that was just taken. */
+static void note_concerned(World *world, Report *report)
+{
+    int count = 0;
+    for (Widget *widget = world->widgets; widget != NULL && count < MOST_WIDGETS; widget = widget->next)
+        if (widget->state == EXISTS
+            && tktext_told_to(&world->handle, &report->changes, (const uint8_t *)widget->utf8, widget->size))
+            report->concerned[count++] = widget->number;
+    report->concerned_count = count;
+}
+
+/* Moves what a command changed out of the world, into the queue of reports. */
 static void queue_report(World *world, Document *document)
 {
     Report *report = world->ready;
@@ -415,22 +445,29 @@ static void queue_report(World *world, Document *document)
     tktext_take_report(&world->handle, changes);
     if (tktext_told(changes) + tktext_told_tags(changes) + tktext_told_marks(changes) == 0)
         return;
+    note_concerned(world, report);
     world->ready = NULL;
     report->document = document;
-    document->holders++;
+    if (document != NULL)
+        document->holders++;
     report->number = ++world->reports_made;
     *world->end = report;
     world->end = &report->next;
 }
 
-/* Carries out a command of a widget of a document, and queues a report of it.  The report is allocated before anything
-   changes. */
+/* Whether a command's report needs its marks: of a widget of a document, or, with NULL, of `destroy`. */
+static int needs_marks(const World *world, const Document *document)
+{
+    return (document == NULL ? world->mark_followers : document->mark_followers) > 0;
+}
+
+/* Carries out a command, and queues a report of it.  The report is allocated before anything changes. */
 static int32_t call_reported(World *world, Document *document, const uint8_t *bytes, size_t size, const size_t *lengths,
                              size_t count)
 {
     if (!make_ready(world))
         return TKTEXT_NO_MEMORY;
-    int32_t code = tktext_call_told(&world->handle, document->mark_followers > 0, bytes, size, lengths, count);
+    int32_t code = tktext_call_told(&world->handle, needs_marks(world, document), bytes, size, lengths, count);
     if (code == TKTEXT_ANSWER)
         queue_report(world, document);
     return code;
@@ -439,7 +476,7 @@ static int32_t call_reported(World *world, Document *document, const uint8_t *by
 /* What `call` returns besides the library's codes, with nothing changed. */
 #define TOO_LONG (-1)
 
-/* Carries out a command of a widget of a document; or, with NULL, one that is no widget's. */
+/* Carries out a command of a widget of a document, or `text`; or, with NULL, `destroy`. */
 static int32_t call(World *world, Document *document, const Command *command)
 {
     uint8_t fixed[FIXED_BYTES], *bytes = fixed;
@@ -456,7 +493,7 @@ static int32_t call(World *world, Document *document, const Command *command)
         size_t size = join((char *)bytes, lengths, command);
         if (document != NULL)
             note_wide(document, bytes, size, room);
-        if (document != NULL && is_reported(document))
+        if (is_reported(world, document))
             code = call_reported(world, document, bytes, size, lengths, count);
         else
             code = tktext_call(&world->handle, bytes, size, lengths, count);
@@ -500,10 +537,10 @@ static size_t wide_before(const Document *document, size_t offset)
     return low;
 }
 
-/* An offset in characters as Tcl counts them. */
+/* An offset in characters as Tcl counts them; as it is without a document, which is gone. */
 static size_t in_tcl(const Document *document, size_t offset)
 {
-    return offset + wide_before(document, offset);
+    return document == NULL ? offset : offset + wide_before(document, offset);
 }
 
 /* Returns the number of wide characters of a text in UTF-8, and sets that of all its characters. */
@@ -631,8 +668,9 @@ static Tcl_Obj *change_of(Report *report, size_t change)
 
 /* A change of a tag, as a list after the name of the widget whose `sel` it is, or an empty one; NULL if that can't be
    made. */
-static Tcl_Obj *tag_change_of(Report *report, size_t change)
+static Tcl_Obj *tag_change_of(const World *world, Report *report, size_t change)
 {
+    (void)world;
     tktext_report *changes = &report->changes;
     Tcl_Obj *tag = reported_text(report, tktext_told_tag, change);
     if (tag == NULL)
@@ -648,20 +686,47 @@ static Tcl_Obj *tag_change_of(Report *report, size_t change)
     return Tcl_NewListObj(5, parts);
 }
 
+/* Whether a report concerns a widget. */
+static int is_concerned(const Report *report, const Widget *widget)
+{
+    for (int index = 0; index < report->concerned_count; index++)
+        if (report->concerned[index] == widget->number)
+            return 1;
+    return 0;
+}
+
+/* Whether a mark of a report concerns a widget that the report concerns. */
+static int is_mark_of(Report *report, size_t mark, const Widget *widget)
+{
+    return tktext_told_mark_to(&report->changes, mark, (const uint8_t *)widget->utf8, widget->size);
+}
+
+/* The document of a mark of a report; NULL if it is gone with its last widget. */
+static const Document *document_of_mark(const World *world, Report *report, size_t mark)
+{
+    if (report->document != NULL)
+        return report->document;
+    for (const Widget *widget = world->widgets; widget != NULL; widget = widget->next)
+        if (is_concerned(report, widget) && is_mark_of(report, mark, widget))
+            return widget->document;
+    return NULL;
+}
+
 /* Where a mark is before or after the command: {offset gravity}, or an empty list if it isn't there. */
-static Tcl_Obj *place_of(Report *report, size_t mark, size_t end)
+static Tcl_Obj *place_of(const World *world, Report *report, size_t mark, size_t end)
 {
     tktext_report *changes = &report->changes;
     size_t at = tktext_told_mark_at(changes, mark, end);
     if (at == TKTEXT_NO_PLACE)
         return Tcl_NewListObj(0, NULL);
     int is_left = tktext_told_mark_gravity(changes, mark, end) == TKTEXT_LEFT;
-    Tcl_Obj *parts[] = {number_of(in_tcl(report->document, at)), Tcl_NewStringObj(is_left ? "left" : "right", -1)};
+    size_t offset = in_tcl(document_of_mark(world, report, mark), at);
+    Tcl_Obj *parts[] = {number_of(offset), Tcl_NewStringObj(is_left ? "left" : "right", -1)};
     return Tcl_NewListObj(2, parts);
 }
 
 /* A mark as it is before the command, as a list {mark widget old}; NULL if that can't be made. */
-static Tcl_Obj *mark_of(Report *report, size_t index)
+static Tcl_Obj *mark_of(const World *world, Report *report, size_t index)
 {
     Tcl_Obj *mark = reported_text(report, tktext_told_mark, index);
     if (mark == NULL)
@@ -671,7 +736,7 @@ static Tcl_Obj *mark_of(Report *report, size_t index)
         Tcl_DecrRefCount(mark);
         return NULL;
     }
-    Tcl_Obj *parts[] = {mark, widget, place_of(report, index, TKTEXT_BEFORE)};
+    Tcl_Obj *parts[] = {mark, widget, place_of(world, report, index, TKTEXT_BEFORE)};
     return Tcl_NewListObj(3, parts);
 }
 
@@ -702,11 +767,12 @@ static Tcl_Obj *list_changes(Report *report, int is_followed)
 }
 
 /* A number of changes of tags, or of marks, of a report, as a list; NULL if that can't be made. */
-static Tcl_Obj *list_others(Report *report, size_t count, Tcl_Obj *(*one)(Report *, size_t))
+static Tcl_Obj *list_others(const World *world, Report *report, size_t count,
+                            Tcl_Obj *(*one)(const World *, Report *, size_t))
 {
     Tcl_Obj *list = Tcl_NewListObj(0, NULL);
     for (size_t index = 0; index < count && list != NULL; index++)
-        list = appended(list, one(report, index));
+        list = appended(list, one(world, report, index));
     return list;
 }
 
@@ -716,13 +782,13 @@ static int is_word(Tcl_Obj *word, const char *text)
 }
 
 /* Adds to each mark of a list where it is after the command. */
-static void add_new_places(Report *report, Tcl_Obj *marks)
+static void add_new_places(const World *world, Report *report, Tcl_Obj *marks)
 {
     int count;
     Tcl_Obj **all;
     Tcl_ListObjGetElements(NULL, marks, &count, &all);
     for (int number = 0; number < count; number++)
-        Tcl_ListObjAppendElement(NULL, all[number], place_of(report, (size_t)number, TKTEXT_AFTER));
+        Tcl_ListObjAppendElement(NULL, all[number], place_of(world, report, (size_t)number, TKTEXT_AFTER));
 }
 
 /* Of changes of tags those that concern a widget, without the name that is first in each. */
@@ -739,14 +805,26 @@ static Tcl_Obj *tags_for(Tcl_Obj *tags, Widget *widget)
     return own;
 }
 
+/* Of marks those that concern a widget. */
+static Tcl_Obj *marks_for(Report *report, Tcl_Obj *marks, Widget *widget)
+{
+    int count;
+    Tcl_Obj **all, *own = Tcl_NewListObj(0, NULL);
+    Tcl_ListObjGetElements(NULL, marks, &count, &all);
+    for (int number = 0; number < count; number++)
+        if (is_mark_of(report, (size_t)number, widget))
+            Tcl_ListObjAppendElement(NULL, own, all[number]);
+    return own;
+}
+
 /* ---- Delivery of reports */
 
 /* Whether a widget has a follower of a kind that gets a report. */
 static int is_due(Widget *widget, int way, const Report *report)
 {
     const Follower *follower = &widget->followers[way];
-    return widget->document == report->document && widget->state == EXISTS && follower->prefix != NULL
-        && follower->since < report->number;
+    return widget->state == EXISTS && follower->prefix != NULL && follower->since < report->number
+        && is_concerned(report, widget);
 }
 
 static int is_followed(World *world, int way, const Report *report)
@@ -764,11 +842,11 @@ static int make_lists(World *world, Report *report, Tcl_Obj *lists[])
     size_t tags = is_followed(world, TAGS, report) ? tktext_told_tags(&report->changes) : 0;
     size_t marks = is_followed(world, MARKS, report) ? tktext_told_marks(&report->changes) : 0;
     int is_whole = 1;
-    lists[MARKS] = list_others(report, marks, mark_of);
+    lists[MARKS] = list_others(world, report, marks, mark_of);
     lists[CHANGES] = list_changes(report, is_followed(world, CHANGES, report));
-    lists[TAGS] = list_others(report, tags, tag_change_of);
+    lists[TAGS] = list_others(world, report, tags, tag_change_of);
     if (lists[MARKS] != NULL)
-        add_new_places(report, lists[MARKS]);
+        add_new_places(world, report, lists[MARKS]);
     for (int way = 0; way < WAYS; way++)
         if (lists[way] != NULL)
             Tcl_IncrRefCount(lists[way]);
@@ -778,9 +856,11 @@ static int make_lists(World *world, Report *report, Tcl_Obj *lists[])
 }
 
 /* What a widget gets of the lists of a report. */
-static Tcl_Obj *list_for(Widget *widget, int way, Tcl_Obj *const lists[])
+static Tcl_Obj *list_for(Report *report, Widget *widget, int way, Tcl_Obj *const lists[])
 {
-    return way == TAGS ? tags_for(lists[TAGS], widget) : lists[way];
+    if (way == CHANGES)
+        return lists[CHANGES];
+    return way == TAGS ? tags_for(lists[TAGS], widget) : marks_for(report, lists[MARKS], widget);
 }
 
 /* Calls a prefix with a list, unless that is empty. */
@@ -822,12 +902,12 @@ static Widget *next_turn(World *world, const Report *report, Turn *turn)
 }
 
 /* Calls all followers of a report. */
-static void call_followers(Tcl_Interp *interp, World *world, const Report *report, Tcl_Obj *const lists[])
+static void call_followers(Tcl_Interp *interp, World *world, Report *report, Tcl_Obj *const lists[])
 {
     Turn turn = {UINT64_MAX, 0};
     Widget *widget;
     while (!Tcl_InterpDeleted(interp) && (widget = next_turn(world, report, &turn)) != NULL) {
-        Tcl_Obj *list = list_for(widget, turn.way, lists);
+        Tcl_Obj *list = list_for(report, widget, turn.way, lists);
         Tcl_IncrRefCount(list);
         call_prefix(interp, widget->followers[turn.way].prefix, list);
         Tcl_DecrRefCount(list);
@@ -884,9 +964,10 @@ static int deliver_all(Tcl_Interp *interp, World *world, int result)
 static void set_follower(Widget *widget, int way, Tcl_Obj *prefix)
 {
     Tcl_Obj *old = widget->followers[way].prefix;
-    int added = (prefix != NULL) - (old != NULL);
+    int added = (prefix != NULL) - (old != NULL), added_to_marks = way == MARKS ? added : 0;
     widget->document->followers += added;
-    widget->document->mark_followers += way == MARKS ? added : 0;
+    widget->document->mark_followers += added_to_marks;
+    widget->world->mark_followers += added_to_marks;
     if (prefix != NULL)
         Tcl_IncrRefCount(prefix);
     if (old != NULL)
@@ -906,10 +987,12 @@ static void unlink_widget(Widget *widget)
 static void forget(void *data)
 {
     Widget *widget = data;
-    if (widget->state == EXISTS) {
+    World *world = widget->world;
+    int is_destroyed = widget->state == EXISTS;
+    if (is_destroyed) {
         Tcl_Obj *destroy = Tcl_NewStringObj("destroy", -1);
         Tcl_IncrRefCount(destroy);
-        call(widget->world, NULL, &(Command){destroy, 1, &widget->name});
+        call(world, NULL, &(Command){destroy, 1, &widget->name});
         Tcl_DecrRefCount(destroy);
     }
     unlink_widget(widget);
@@ -917,8 +1000,10 @@ static void forget(void *data)
         set_follower(widget, way, NULL);
     Tcl_DecrRefCount(widget->name);
     let_go_document(widget->document);
-    let_go(widget->world);
     free(widget);
+    if (is_destroyed && !Tcl_InterpDeleted(world->interp))
+        deliver_all(world->interp, world, TCL_OK);
+    let_go(world);
 }
 
 static int make_widget(Tcl_Interp *interp, World *world, Document *document, const Command *command, Tcl_Obj *name);
@@ -974,7 +1059,7 @@ static int add_command(Tcl_Interp *interp, Widget *widget, int result)
 static int make_widget(Tcl_Interp *interp, World *world, Document *document, const Command *command, Tcl_Obj *name)
 {
     int is_done;
-    Widget *widget = malloc(sizeof *widget);
+    Widget *widget = malloc(sizeof *widget + (name == NULL ? 0 : room_of(name) + SLACK));
     if (widget == NULL)
         return fail_for_memory(interp);
     int result = give(interp, world, document, command, &is_done);
@@ -982,7 +1067,10 @@ static int make_widget(Tcl_Interp *interp, World *world, Document *document, con
         free(widget);
         return result;
     }
-    *widget = (Widget){world, world->widgets, document, ++world->widgets_made, name, NULL, EXISTS, {{NULL, 0}}};
+    *widget = (Widget){world, world->widgets, document, ++world->widgets_made, name, NULL, EXISTS, {{NULL, 0}}, 0};
+    Tcl_Encoding utf8 = Tcl_GetEncoding(NULL, "utf-8");
+    widget->size = write_word(widget->utf8, utf8, name);
+    Tcl_FreeEncoding(utf8);
     world->widgets = widget;
     world->holders++;
     document->holders++;
@@ -1059,6 +1147,7 @@ static int destroy(void *data, Tcl_Interp *interp, int count, Tcl_Obj *const wor
         note_destroyed(world, words[number]);
     world->holders++;
     delete_destroyed(interp, world);
+    result = deliver_all(interp, world, result);
     let_go(world);
     return result;
 }
@@ -1117,7 +1206,7 @@ int DLLEXPORT Tktext_Init(Tcl_Interp *interp)
     World *world = malloc(sizeof *world);
     if (world == NULL)
         return fail_for_memory(interp);
-    *world = (World){TKTEXT_EMPTY, NULL, 5, 0, 0, NULL, NULL, NULL, 0};
+    *world = (World){.interp = interp, .handle = TKTEXT_EMPTY, .holders = 5};
     world->end = &world->first;
     if (tktext_new_greatest(&world->handle) != TKTEXT_ANSWER) {
         free(world);

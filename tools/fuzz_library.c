@@ -631,6 +631,7 @@ static void check_marks(void)
     check(tktext_told_mark_widget(&report, count, name, 4) == 0, "a mark too many");
     check(tktext_told_mark_at(&report, count, in(3)) == TKTEXT_NO_PLACE, "a mark too many");
     check(tktext_told_mark_gravity(&report, count, in(3)) == -1, "a mark too many");
+    check(tktext_told_mark_to(&report, count, widget, in(4)) == 0, "a mark too many");
 }
 
 /* What a call that reports left in its world, moved out: nothing of a refused command, no change that is a no-op, and

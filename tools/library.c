@@ -341,6 +341,54 @@ static void check_marks(void)
     tktext_drop(&world);
 }
 
+/* Whether a report that was just taken concerns a widget, and whether one of its marks does. */
+static bool concerns(tktext *world, const char *widget)
+{
+    return tktext_told_to(world, &report, (const uint8_t *)widget, strlen(widget)) == 1;
+}
+
+static bool mark_concerns(size_t mark, const char *widget)
+{
+    return tktext_told_mark_to(&report, mark, (const uint8_t *)widget, strlen(widget)) == 1;
+}
+
+/* Two texts, `.t` with `.p` and `.u` with `.q`, and `.v`, which is alone on a third. */
+static void make_texts(tktext *world)
+{
+    tktext_new_greatest(world);
+    tktext_report_new(&report);
+    tktext_call_words(world, WORDS("text", ".t"));
+    tktext_call_words(world, WORDS(".t", "peer", "create", ".p"));
+    tktext_call_words(world, WORDS("text", ".u"));
+    tktext_call_words(world, WORDS(".u", "peer", "create", ".q"));
+    tktext_call_words(world, WORDS("text", ".v"));
+}
+
+static void check_concerned(void)
+{
+    const size_t none = TKTEXT_NO_PLACE;
+    tktext world = TKTEXT_EMPTY;
+    check(!concerns(&world, ".t") && !mark_concerns(0, ".t"), "no world, and no report");
+    make_texts(&world);
+    check(!concerns(&world, ".t"), "an empty report");
+    check(call_told(&world, ".pmarksetinsertend", LENGTHS(2, 4, 3, 6, 3)) == TKTEXT_ANSWER && concerns(&world, ".t")
+          && concerns(&world, ".p") && !concerns(&world, ".u"), "a command of a peer");
+    check(!concerns(&world, ".x") && !concerns(&world, "") && !concerns(&world, ".t\xff"), "no such widget");
+    check(call_told(&world, ".tmarksetm1.0", LENGTHS(2, 4, 3, 1, 3)) == TKTEXT_ANSWER && mark_concerns(0, ".p")
+          && !mark_concerns(1, ".p") && !mark_concerns(0, ".\xff"), "a mark of a peer's command");
+    check(call_told(&world, ".tindexfoo", LENGTHS(2, 5, 3)) == TKTEXT_FAULT && !concerns(&world, ".t"), "a refused one");
+    check(call_told(&world, "destroy.p.v.q.x", LENGTHS(7, 2, 2, 2, 2)) == TKTEXT_ANSWER && tktext_told(&report) == 0
+          && tktext_told_marks(&report) == 6 && mark_is(0, "insert", ".p", 0, none) && mark_is(1, "current", ".p", 0, none)
+          && mark_is(2, "insert", ".q", 0, none) && mark_is(5, "current", ".v", 0, none), "the marks that go");
+    check(concerns(&world, ".t") && concerns(&world, ".u") && !concerns(&world, ".p") && !concerns(&world, ".v"),
+          "those that are left");
+    check(mark_concerns(0, ".t") && !mark_concerns(2, ".t") && mark_concerns(3, ".u") && !mark_concerns(4, ".u"),
+          "the marks of each text");
+    check(call_told(&world, "text.p", LENGTHS(4, 2)) == TKTEXT_ANSWER && !concerns(&world, ".p"), "a new widget");
+    tktext_report_drop(&report);
+    tktext_drop(&world);
+}
+
 /* Whether one of the changes of tags is this one: a tag, of a `sel` its widget's name, and what becomes of it where. */
 static bool tag_is(size_t change, const char *tag, const char *widget, size_t from, size_t to, int on)
 {
@@ -543,6 +591,7 @@ static int try_uses(void)
     check_tags();
     check_ends();
     check_marks();
+    check_concerned();
     tktext_drop(&world);
     check_empty(&world);
     printf("%d passed, %d failed\n", passed, failed);

@@ -401,8 +401,8 @@ class FollowedText:
 
 
 def check_followed_refusals(tktext, tally):
-    """Each growth of each command refused in turn in a world that is followed: no change is lost, and none comes twice,
-    though MemoryError may come after the command.  Returns the number of commands refused, and of those carried out."""
+    """Each growth of each command refused in turn in a world that is followed: no change is lost, and none comes twice.
+    Returns the number of commands refused, and of those carried out."""
     serials, refused, carried_out = refused_numbers(), 0, 0
     for name, script in worked.repeated_scripts():
         commands, _ = model.reads_script(script)
@@ -448,7 +448,7 @@ def try_python(seeds, refuses):
         print(f"Python: {refusals} commands refused for memory, and given again")
         refusals, carried_out = check_followed_refusals(tktext, tally)
         said = f"{refusals} commands refused for memory in a world that is followed, {carried_out} of them carried out"
-        tally.check(refusals > carried_out > 0, f"Python, {said}")
+        tally.check(refusals > carried_out == 0, f"Python, {said}")
         print(f"Python: {said}")
         return tally.close()
     for row in worked.ROWS + worked.LONG_ROWS:

@@ -9,8 +9,8 @@ there, whose three ends are where it says.  Each tag has to be on just the chara
 widget's `sel` too, no change of a tag may be idle, and the other world's text has to have the tags that all peers
 share.  Each mark, `insert` and `current` of each widget too, has to be where the changes take it and the reports of
 marks then put it, with its gravity, in the text and in the copy; and a mark is reported only if the changes don't take
-it there.  Where there is no such package a line says that it is skipped.  Ends in a line `N passed, M failed`; the exit
-status is 1 if anything failed.
+it there.  Those of a destroyed widget have to be reported as gone.  Where there is no such package a line says that it
+is skipped.  Ends in a line `N passed, M failed`; the exit status is 1 if anything failed.
 """
 
 import argparse
@@ -89,7 +89,7 @@ class Followed:
         """The contents of the reports since the last call."""
         links = self.whole._unread()
         contents = [content for content in (link.read() for link in links[:-1])
-                    if content is not None and str(self.whole) in content.shown]
+                    if content is not None and str(self.whole) in content.concerned]
         self.whole._pass(links)
         return contents
 
@@ -106,11 +106,12 @@ class Followed:
 
     def take_marks(self, content):
         """Moves marks by the changes of a report, and then as it says; returns those that are wrong in it."""
+        marks = [change for change, names in content.marks if str(self.whole) in names]
         carried = {key: place.moved_by(content.changes) for key, place in self.marks.items()}
-        keys = [(change.mark, change.widget) for change in content.marks]
-        wrong = [change for change, key in zip(content.marks, keys)
+        keys = [(change.mark, change.widget) for change in marks]
+        wrong = [change for change, key in zip(marks, keys)
                  if keys.count(key) > 1 or change.old != self.marks.get(key) or change.new == carried.get(key)]
-        carried.update((key, change.new) for change, key in zip(content.marks, keys))
+        carried.update((key, change.new) for change, key in zip(marks, keys))
         self.marks = {key: place for key, place in carried.items() if place is not None}
         return wrong
 
@@ -133,11 +134,9 @@ class Followed:
     def wrong_marks(self, text):
         """The marks that aren't where the reports say, or have another gravity: in the text, and in the copy."""
         found = {key: (place, bounds) for key, place, bounds in self.find_marks(text)}
-        # `destroy` isn't reported.
-        self.marks = {key: place for key, place in self.marks.items() if key in found or not key[1]}
         for key in {**self.marks, **found}:
             known, (place, (start, end)) = self.marks.get(key), found.get(key, (None, (0, 0)))
-            if known is None or place != known._replace(offset=max(start, min(known.offset, end))):
+            if known is None or place is None or place != known._replace(offset=max(start, min(known.offset, end))):
                 yield key, place, known
         starts = starts_of(text)
         copied, marks = marks_of(self.mirror.copy, starts), marks_of(self.whole, starts)
@@ -219,6 +218,9 @@ class Watch:
                     self.faults.append(f"the {name} is {other!r}, and the text {now!r}")
             self.faults.extend(f"the mark {key} is at {place}, and was reported at {known}"
                                for key, place, known in followed.wrong_marks(now))
+            self.faults.extend(f"the copy has the mark {mark} of {widget} at {place}"
+                               for (widget, mark), place in mirror.peers.items()
+                               if followed.marks.get((mark, widget)) != place)
 
 
 def run(script, package, mirror_class):

@@ -519,7 +519,10 @@ show(peer.insert("1.1", "\\u00e9\\n\\U0001f600"))
 show(peer.delete("1.1", "2.1"))
 ends()
 show((peer.changes(), text.insert("1.0", "b"), peer.changes(), peer.changes()))
-text.destroy()
+other.peer_create(".v")
+other.on_marks(places)
+peer.on_marks(places)
+show(text.world.call("destroy", ".t", ".v", ".x"))
 show(peer.insert("1.0", "c"))
 peer.destroy()
 show(other.delete("1.0", "end"))
@@ -540,6 +543,8 @@ None [[(0, 0, 'a')], 0, [(6, 0, '!')], 0, [(7, 0, '!')], 0]
 None [0, ('1.1', Spot(line=1, column=1, bytes=1, units=1), Spot(line=2, column=1, bytes=4, units=2))]
 None [3, ('1.1', Spot(line=2, column=1, bytes=4, units=2), Spot(line=1, column=1, bytes=1, units=1))]
 ([], None, [Change(at=0, removed=0, inserted='b', start=Spot(line=1, column=0, bytes=0, units=0), old_end=Spot(line=1, column=0, bytes=0, units=0), new_end=Spot(line=1, column=1, bytes=1, units=1))], []) [0]
+ [2, [('insert', '.v', (0, 'right'), None), ('current', '.v', (0, 'right'), None)], \
+[('insert', '.t', (4, 'left'), None), ('current', '.t', (9, 'right'), None)]]
 None [0]
 None []
 """

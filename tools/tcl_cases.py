@@ -158,6 +158,7 @@ p {m {} {0 left} {}}
 {m {} {0 left} {}}
 p {insert .q {} {0 right}} {current .q {} {0 right}}
 {insert .q {} {0 right}} {current .q {} {0 right}}
+p {insert .q {0 right} {}} {current .q {0 right} {}}
 p {m {} {} {0 right}}
 error: bad text index "foo" (TKTEXT FAULT {bad text index "foo"})
 1
@@ -401,37 +402,37 @@ foreach name {.t .p} {
     }
 }
 """
-DESTRUCTIVE_PRINTS = """.t, tktext::destroy .t: 1 x 0 2
-.t, rename .t {}: 1 x 0 2
-.t, tktext::destroy .p: 1 x 2 2
-.t, rename .p {}: 1 x 2 2
+DESTRUCTIVE_PRINTS = """.t, tktext::destroy .t: 1 x 0 3
+.t, rename .t {}: 1 x 0 3
+.t, tktext::destroy .p: 1 x 3 2
+.t, rename .p {}: 1 x 3 2
 .t, tktext::destroy .t .p: 1 x 0 2
 .t, rename .t .v: 1 x 1 2
 .t, tktext::onchange .t {}: 0 x 2 5
 .t, tktext::onchange .p {}: 0 x 2 3
 .t, namespace delete ::tktext: 0 x 2 5
-.t, tktext::destroy .t; tktext::text .t: 0 x 0 3
+.t, tktext::destroy .t; tktext::text .t: 0 x 0 4
 .t, .p insert 1.0 y; tktext::destroy .p .t: 1 x 0 2
 .t, .p insert 1.0 y; kill: 1 gone
 .t, kill: 1 gone
-.t, proc .t args {}: 0 x 0 3
+.t, proc .t args {}: 0 x 0 4
 .t, interp hide {} .t: 1 x 1 2
 .t, interp bgerror {} {apply {args kill}}; error bad: 0 gone
 .t, error bad; .p index: 0 x 2 5
-.p, tktext::destroy .t: 1 x 0 1
-.p, rename .t {}: 1 x 0 1
-.p, tktext::destroy .p: 1 x 3 0
-.p, rename .p {}: 1 x 3 0
+.p, tktext::destroy .t: 1 x 0 2
+.p, rename .t {}: 1 x 0 2
+.p, tktext::destroy .p: 1 x 4 0
+.p, rename .p {}: 1 x 4 0
 .p, tktext::destroy .t .p: 1 x 0 0
 .p, rename .t .v: 1 x 2 1
 .p, tktext::onchange .t {}: 0 x 2 2
 .p, tktext::onchange .p {}: 0 x 5 2
 .p, namespace delete ::tktext: 0 x 5 2
-.p, tktext::destroy .t; tktext::text .t: 0 x 0 1
+.p, tktext::destroy .t; tktext::text .t: 0 x 0 2
 .p, .p insert 1.0 y; tktext::destroy .p .t: 1 x 0 0
 .p, .p insert 1.0 y; kill: 1 gone
 .p, kill: 1 gone
-.p, proc .t args {}: 0 x 0 1
+.p, proc .t args {}: 0 x 0 2
 .p, interp hide {} .t: 1 x 2 1
 .p, interp bgerror {} {apply {args kill}}; error bad: 0 gone
 .p, error bad; .p index: 0 x 5 2
@@ -490,6 +491,10 @@ tktext::onmarks .o see
 .o mark set insert 1.2
 .o replace 1.1 1.3 ${smile}${smile}${smile}x
 .o delete 1.0 1.2
+# The mark of a peer that is destroyed, beside one of another text.
+.o peer create .r
+.r mark set insert 1.end
+tktext::destroy .p .r
 """
 WIDE_PRINTS = """{7 0 \U0001f600y {2 1 4 2} {2 1 4 2} {2 3 9 5}}
 {x 7 9 1} {y 9 10 1}
@@ -523,6 +528,9 @@ WIDE_PRINTS = """{7 0 \U0001f600y {2 1 4 2} {2 1 4 2} {2 3 9 5}}
 {1 3 \U0001f600\U0001f600\U0001f600x {1 1 1 1} {1 3 6 4} {1 5 14 8}}
 {insert .o {3 right} {3 right}}
 {0 3 {} {1 0 0 0} {1 2 5 3} {1 0 0 0}}
+{insert .r {} {0 right}} {current .r {} {0 right}}
+{insert .r {0 right} {6 right}}
+{insert .r {6 right} {}} {current .r {0 right} {}}
 """
 
 # Random commands on a text with characters of all lengths, by it and two peers that show a part of it, with a copy of

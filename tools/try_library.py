@@ -39,6 +39,7 @@ fn main(rt: HostRuntime) {
     let _ = tktext_word(alloc, &mut handle, 0, &mut room);
     let _ = tktext_report_new(alloc, &mut report);
     let _ = tktext_take_report(alloc, &mut handle, &mut report);
+    let _ = tktext_told_to(alloc, &mut handle, &mut report, b".t");
     let _ = tktext_told(alloc, &mut report);
     let _ = tktext_told_at(alloc, &mut report, 0);
     let _ = tktext_told_removed(alloc, &mut report, 0);
@@ -58,6 +59,7 @@ fn main(rt: HostRuntime) {
     let _ = tktext_told_mark_widget(alloc, &mut report, 0, &mut room);
     let _ = tktext_told_mark_at(alloc, &mut report, 0, 0);
     let _ = tktext_told_mark_gravity(alloc, &mut report, 0, 0);
+    let _ = tktext_told_mark_to(alloc, &mut report, 0, b".t");
     tktext_report_drop(alloc, &mut report);
     report.spent();
     let _ = tktext_can_undo(alloc, &mut handle, b".t");

@@ -51,10 +51,10 @@ typedef struct Report {
     struct Report *next;
     /* What the command changed. */
     tktext_report report;
-    /* The name of the command's widget, and the list of its peers at that time; NULL until they are noted. */
-    PyObject *widget, *peers;
-    /* The tuple of those who followed at that time; the first `heard` of them have been called. */
-    PyObject *followers;
+    /* The tuple of those who followed at that time, that of the names of their widgets, and which of them the report
+       concerns; the first `heard` of them have been called. */
+    PyObject *followers, *names;
+    char *concerned;
     Py_ssize_t heard;
     /* The content as objects of the Python side, once it has been read. */
     PyObject *content;
@@ -74,14 +74,12 @@ typedef struct {
     char is_delivering;
     /* Whether one of those who follow follows marks. */
     char follows_marks;
-    /* The tuple of those who follow, or NULL. */
-    PyObject *followers;
+    /* The tuple of those who follow, and that of the names of their widgets; or NULL. */
+    PyObject *followers, *names;
     /* The queue, or NULL: the first link that isn't delivered, and the empty one, which the next report fills. */
     Report *first, *last;
     /* The empty link of the time after that. */
     Report *spare;
-    /* The link whose widgets are still to be noted. */
-    Report *unnoted;
     /* The line that `said` returns, if the handle has another one. */
     PyObject *line;
 } World;
@@ -134,15 +132,14 @@ int append(PyObject *list, PyObject *element);
 PyObject *tuple_of_list(const char *start, size_t length);
 PyObject *answer_as(int form, const char *text, size_t length);
 
-/* ---- _reports.c: what commands changed, and who hears of it */
+/* ---- _reports.c: what commands changed, and who is notified of it */
 
 int32_t call_reported(World *world, const uint8_t *bytes, size_t size, const size_t *lengths, size_t count);
 int32_t next_reported(World *world);
-int note_widgets(World *world);
 int deliver(World *world);
 int queue_event(World *world, PyObject *event);
 PyObject *followers_of(World *world);
-int replace_followers(World *world, PyObject *old, PyObject *new, int follows_marks);
+int replace_followers(World *world, PyObject *old, PyObject *new, PyObject *names, int follows_marks);
 PyObject *links_from(World *world, Report **unread);
 void drop_queue(World *world);
 int visit_queue(World *world, visitproc visit, void *arg);
@@ -150,8 +147,6 @@ int visit_queue(World *world, visitproc visit, void *arg);
 /* ---- _world.c: worlds and widgets */
 
 PyObject *raise_code(int32_t code);
-int copy_line(World *world, struct buffer *line, size_t *length);
-PyObject *line_of(World *world);
 PyObject *run_widget(Widget *widget, PyObject *const *values, Py_ssize_t count, int form);
 
 #endif

@@ -1,9 +1,8 @@
-/* What commands changed, and who hears of it: the queue of a world.
+/* What commands changed, and who is notified of it: the queue of a world.
 
-   A command and the queuing of its report are one step, in which no code of Python's runs: no signal handler, no
-   finalizer and no other thread.  The memory for it is allocated before the command.  After it another command asks
-   which widgets show the text; if memory is refused to that one, it is given again before the world carries out
-   anything else.
+   A command and the queuing of its report, with the followers that it concerns, are one step, in which no code of
+   Python's runs: no signal handler, no finalizer and no other thread.  The memory for it is allocated before the
+   command.
 
    The queue is a list of links, each of which owns the next one.  One call at a time delivers them, in order.  A widget
    of which `changes` was called has a position of its own in the list. */
@@ -81,8 +80,8 @@ static void report_dealloc(Report *link)
     PyTypeObject *type = Py_TYPE(link);
     PyObject_GC_UnTrack(link);
     report_clear(link);
-    Py_CLEAR(link->widget);
-    Py_CLEAR(link->peers);
+    Py_CLEAR(link->names);
+    PyMem_Free(link->concerned);
     tktext_report_drop(&link->report);
     ((freefunc)PyType_GetSlot(type, Py_tp_free))(link);
     Py_DECREF(type);
@@ -110,8 +109,9 @@ static PyObject *text_of(tktext_report *report, Copy copy, size_t index)
 
 /* Returns a change of the text: its offset, the number of characters deleted, the text inserted, and three ends: the
    line of each, and the numbers of characters, bytes and units of UTF-16 before it in that line. */
-static PyObject *change_of(tktext_report *report, size_t change)
+static PyObject *change_of(Report *link, size_t change)
 {
+    tktext_report *report = &link->report;
     Py_ssize_t lines[3], columns[3], bytes[3], units[3];
     for (size_t end = TKTEXT_START; end <= TKTEXT_NEW_END; end++) {
         lines[end] = tktext_told_line(report, change, end);
@@ -129,8 +129,9 @@ static PyObject *change_of(tktext_report *report, size_t change)
 
 /* Returns a change of a tag: the tag, the offsets from which and to which, whether it was added, and the widget of a
    `sel`. */
-static PyObject *tag_change_of(tktext_report *report, size_t change)
+static PyObject *tag_change_of(Report *link, size_t change)
 {
+    tktext_report *report = &link->report;
     PyObject *tag = text_of(report, tktext_told_tag, change);
     PyObject *widget = tag == NULL ? NULL : text_of(report, tktext_told_tag_widget, change);
     if (widget == NULL) {
@@ -152,36 +153,59 @@ static PyObject *position_of(tktext_report *report, size_t mark, size_t end)
     return Py_BuildValue("ns", (Py_ssize_t)at, is_left ? "left" : "right");
 }
 
-/* Returns a change of a mark: the mark, the widget of an `insert` or `current`, and where the mark was and is. */
-static PyObject *mark_change_of(tktext_report *report, size_t mark)
+/* Returns the names of the followers' widgets that a report concerns; with one of its marks, those that it concerns. */
+static PyObject *names_concerned(Report *link, const size_t *mark)
 {
+    PyObject *list = PyList_New(0);
+    Py_ssize_t count = PyTuple_Size(link->names), length;
+    for (Py_ssize_t at = 0; list != NULL && at < count; at++) {
+        PyObject *name = PyTuple_GetItem(link->names, at);
+        const uint8_t *bytes = (const uint8_t *)PyUnicode_AsUTF8AndSize(name, &length);
+        if (bytes == NULL) {
+            Py_CLEAR(list);
+        } else if (link->concerned[at] && (mark == NULL || tktext_told_mark_to(&link->report, *mark, bytes, length))) {
+            if (PyList_Append(list, name) < 0)
+                Py_CLEAR(list);
+        }
+    }
+    return list;
+}
+
+/* Returns a change of a mark: the mark, the widget of an `insert` or `current`, where the mark was and is, and the
+   names of the followers' widgets that it concerns. */
+static PyObject *mark_change_of(Report *link, size_t mark)
+{
+    tktext_report *report = &link->report;
     PyObject *name = text_of(report, tktext_told_mark, mark);
     PyObject *widget = name == NULL ? NULL : text_of(report, tktext_told_mark_widget, mark);
     PyObject *old = widget == NULL ? NULL : position_of(report, mark, TKTEXT_BEFORE);
     PyObject *new = old == NULL ? NULL : position_of(report, mark, TKTEXT_AFTER);
-    if (new != NULL)
-        return Py_BuildValue("NNNN", name, widget, old, new);
+    PyObject *concerned = new == NULL ? NULL : names_concerned(link, &mark);
+    if (concerned != NULL)
+        return Py_BuildValue("NNNNN", name, widget, old, new, concerned);
     Py_XDECREF(name);
     Py_XDECREF(widget);
     Py_XDECREF(old);
+    Py_XDECREF(new);
     return NULL;
 }
 
-static PyObject *list_of(tktext_report *report, size_t count, PyObject *(*item_of)(tktext_report *, size_t))
+static PyObject *list_of(Report *link, size_t count, PyObject *(*item_of)(Report *, size_t))
 {
     PyObject *list = PyList_New(0);
     for (size_t at = 0; list != NULL && at < count; at++)
-        if (append(list, item_of(report, at)) < 0)
+        if (append(list, item_of(link, at)) < 0)
             Py_CLEAR(list);
     return list;
 }
 
 /* Returns the three lists of a report: its changes of the text and of tags, and its marks. */
-static PyObject *lists_of(tktext_report *report)
+static PyObject *lists_of(Report *link)
 {
-    PyObject *changes = list_of(report, tktext_told(report), change_of);
-    PyObject *tags = changes == NULL ? NULL : list_of(report, tktext_told_tags(report), tag_change_of);
-    PyObject *marks = tags == NULL ? NULL : list_of(report, tktext_told_marks(report), mark_change_of);
+    tktext_report *report = &link->report;
+    PyObject *changes = list_of(link, tktext_told(report), change_of);
+    PyObject *tags = changes == NULL ? NULL : list_of(link, tktext_told_tags(report), tag_change_of);
+    PyObject *marks = tags == NULL ? NULL : list_of(link, tktext_told_marks(report), mark_change_of);
     if (marks != NULL)
         return Py_BuildValue("NNN", changes, tags, marks);
     Py_XDECREF(changes);
@@ -191,12 +215,12 @@ static PyObject *lists_of(tktext_report *report)
 
 static PyObject *make_content(Report *link, struct state *state)
 {
-    PyObject *lists = lists_of(&link->report);
-    if (lists == NULL)
-        return NULL;
-    PyObject *content
-        = PyObject_CallFunctionObjArgs(state->content_of_report, link->widget, link->peers, lists, NULL);
-    Py_DECREF(lists);
+    PyObject *names = names_concerned(link, NULL);
+    PyObject *lists = names == NULL ? NULL : lists_of(link), *content = NULL;
+    if (lists != NULL)
+        content = PyObject_CallFunctionObjArgs(state->content_of_report, names, lists, NULL);
+    Py_XDECREF(names);
+    Py_XDECREF(lists);
     return content;
 }
 
@@ -206,7 +230,7 @@ static PyObject *report_read(Report *link, PyObject *Py_UNUSED(nothing))
     struct state *state = PyType_GetModuleState(Py_TYPE(link));
     if (state == NULL)
         return NULL;
-    if (link->peers == NULL)
+    if (link->names == NULL)
         return none();
     if (link->content == NULL) {
         PyObject *content = make_content(link, state), *old = link->content;
@@ -238,11 +262,15 @@ PyType_Spec report_spec = {
 
 /* ---- commands whose changes are reported */
 
-/* Gives a link an empty report, if it has none. */
-static int make_report(Report *link)
+/* Gives a link an empty report, if it has none, and space for which followers the report concerns. */
+static int make_report(World *world, Report *link)
 {
-    if (link->report.full || tktext_report_new(&link->report) == TKTEXT_ANSWER)
-        return 0;
+    char *concerned = PyMem_Realloc(link->concerned, PyTuple_Size(world->followers));
+    if (concerned != NULL) {
+        link->concerned = concerned;
+        if (link->report.full || tktext_report_new(&link->report) == TKTEXT_ANSWER)
+            return 0;
+    }
     raise_code(TKTEXT_NO_MEMORY);
     return -1;
 }
@@ -260,9 +288,17 @@ static int prepare(World *world)
         else
             Py_DECREF(link);
     }
-    if (world->followers != NULL && make_report(world->last) < 0)
-        return -1;
-    return note_widgets(world);
+    return world->followers == NULL ? 0 : make_report(world, world->last);
+}
+
+/* Notes which followers the report concerns that was taken just now.  The UTF-8 of each name is kept with it. */
+static void note_concerned(World *world, Report *link)
+{
+    Py_ssize_t count = PyTuple_Size(world->names), length;
+    for (Py_ssize_t at = 0; at < count; at++) {
+        const char *name = PyUnicode_AsUTF8AndSize(PyTuple_GetItem(world->names, at), &length);
+        link->concerned[at] = (char)tktext_told_to(&world->handle, &link->report, (const uint8_t *)name, length);
+    }
 }
 
 /* Queues what the command changed that was carried out just now, if anything. */
@@ -273,11 +309,13 @@ static void queue_report(World *world)
     tktext_take_report(&world->handle, report);
     if (tktext_told(report) + tktext_told_tags(report) + tktext_told_marks(report) == 0)
         return;
+    note_concerned(world, link);
     Py_INCREF(world->followers);
     link->followers = world->followers;
+    Py_INCREF(world->names);
+    link->names = world->names;
     add_link(world, world->spare);
     world->spare = NULL;
-    world->unnoted = link;
 }
 
 /* Does what a command asks for that was carried out just now, and returns its code. */
@@ -290,8 +328,8 @@ static int32_t conclude(World *world, int32_t code)
     return code;
 }
 
-/* Carries out a command as tktext_call does, and queues what it changed.  The caller then copies its line, and calls
-   note_widgets.  Returns -1 with an error if memory is refused before the command. */
+/* Carries out a command as tktext_call does, and queues what it changed.  The caller then copies its line.  Returns -1
+   with an error if memory is refused before the command. */
 int32_t call_reported(World *world, const uint8_t *bytes, size_t size, const size_t *lengths, size_t count)
 {
     if (prepare(world) < 0)
@@ -312,49 +350,6 @@ int32_t next_reported(World *world)
     if (world->followers == NULL)
         return conclude(world, tktext_next(&world->handle));
     return conclude(world, tktext_next_told(&world->handle, world->follows_marks));
-}
-
-/* Asks the widget of the last command for its peers. */
-static int ask_peers(World *world, Report *link, struct buffer *buffer)
-{
-    static const char question[] = "peernames";
-    const size_t name = tktext_word(&world->handle, 0, buffer->bytes, 0);
-    const size_t lengths[] = {name, strlen("peer"), strlen("names")};
-    size_t length;
-    if (buffer_reserve(buffer, name + strlen(question)) < 0)
-        return -1;
-    tktext_word(&world->handle, 0, buffer->bytes, name);
-    memcpy(buffer->bytes + name, question, strlen(question));
-    if (link->widget == NULL)
-        link->widget = PyUnicode_DecodeUTF8((const char *)buffer->bytes, name, NULL);
-    if (link->widget == NULL)
-        return -1;
-    int32_t code = tktext_call(&world->handle, buffer->bytes, name + strlen(question), lengths, 3);
-    if (code != TKTEXT_ANSWER) {
-        raise_code(code);
-        return -1;
-    }
-    if (copy_line(world, buffer, &length) < 0)
-        return -1;
-    link->peers = PyUnicode_DecodeUTF8((const char *)buffer->bytes, length - TKTEXT_BEHIND, NULL);
-    return link->peers == NULL ? -1 : 0;
-}
-
-/* Notes which widgets show the text of the last report, unless that was done: these are still the same, since nothing
-   was carried out in the meantime.  It keeps the line of the last command. */
-int note_widgets(World *world)
-{
-    struct buffer buffer;
-    if (world->unnoted == NULL)
-        return 0;
-    if (world->line == NULL && (world->line = line_of(world)) == NULL)
-        return -1;
-    buffer_begin(&buffer);
-    int failed = ask_peers(world, world->unnoted, &buffer);
-    if (!failed)
-        world->unnoted = NULL;
-    buffer_end(&buffer);
-    return failed;
 }
 
 /* ---- delivery */
@@ -396,6 +391,10 @@ static int call_function(PyObject *follower, PyObject *function, PyObject *part)
    follower is still the next one; once its function is called, it isn't called again. */
 static int deliver_to_next(Report *link)
 {
+    if (!link->concerned[link->heard]) {
+        link->heard++;
+        return 0;
+    }
     PyObject *follower = PyTuple_GetItem(link->followers, link->heard);
     PyObject *part = PyObject_CallMethod(follower, "part", "O", link);
     PyObject *function = part == NULL ? NULL : PyObject_GetAttrString(follower, "function");
@@ -443,7 +442,7 @@ int deliver(World *world)
     while (!failed && world->first != world->last) {
         Report *link = world->first;
         Py_INCREF(link);
-        failed = note_widgets(world) < 0 || (link->event != NULL ? deliver_event : deliver_report)(world, link) < 0;
+        failed = (link->event != NULL ? deliver_event : deliver_report)(world, link) < 0;
         Py_DECREF(link);
     }
     world->is_delivering = 0;
@@ -454,7 +453,7 @@ int deliver(World *world)
 int queue_event(World *world, PyObject *event)
 {
     Report *link = make_link(world);
-    if (link == NULL || begin_queue(world) < 0 || note_widgets(world) < 0) {
+    if (link == NULL || begin_queue(world) < 0) {
         Py_XDECREF(link);
         return -1;
     }
@@ -475,25 +474,41 @@ PyObject *followers_of(World *world)
     return world->followers;
 }
 
-/* Replaces the tuple of followers, some of which may follow marks: 1; or 0 if it isn't the old one any more, and -1
-   after an error. */
-int replace_followers(World *world, PyObject *old, PyObject *new, int follows_marks)
+/* Whether the names of widgets are as many as their followers, and each has its UTF-8, which is kept with it. */
+static int are_names(PyObject *names, PyObject *followers)
 {
-    if (begin_queue(world) < 0)
+    Py_ssize_t count = PyTuple_Size(names), length;
+    for (Py_ssize_t at = 0; at < count; at++)
+        if (PyUnicode_AsUTF8AndSize(PyTuple_GetItem(names, at), &length) == NULL)
+            return 0;
+    if (count == PyTuple_Size(followers))
+        return 1;
+    PyErr_SetString(PyExc_ValueError, "each follower has a name");
+    return 0;
+}
+
+/* Replaces the tuple of followers, with that of the names of their widgets; some may follow marks.  Returns 1; or 0 if
+   it isn't the old one any more, and -1 after an error. */
+int replace_followers(World *world, PyObject *old, PyObject *new, PyObject *names, int follows_marks)
+{
+    if (begin_queue(world) < 0 || !are_names(names, new))
         return -1;
-    PyObject *present = world->followers, *spare = NULL;
+    PyObject *present = world->followers, *old_names = world->names, *spare = NULL;
     if (present == NULL ? PyTuple_Size(old) != 0 : present != old)
         return 0;
     if (PyTuple_Size(new) != 0) {
         Py_INCREF(new);
+        Py_INCREF(names);
         world->followers = new;
+        world->names = names;
     } else {
         spare = (PyObject *)world->spare;
-        world->followers = NULL;
+        world->followers = world->names = NULL;
         world->spare = NULL;
     }
     world->follows_marks = follows_marks != 0;
     Py_XDECREF(present);
+    Py_XDECREF(old_names);
     Py_XDECREF(spare);
     return 1;
 }
@@ -508,7 +523,7 @@ static Report *next_link(World *world, Report *link)
 PyObject *links_from(World *world, Report **unread)
 {
     PyObject *links = PyList_New(0);
-    if (links == NULL || begin_queue(world) < 0 || note_widgets(world) < 0) {
+    if (links == NULL || begin_queue(world) < 0) {
         Py_XDECREF(links);
         return NULL;
     }
@@ -526,12 +541,13 @@ PyObject *links_from(World *world, Report **unread)
 void drop_queue(World *world)
 {
     Report *first = world->first, *spare = world->spare;
-    PyObject *followers = world->followers;
-    world->first = world->last = world->spare = world->unnoted = NULL;
-    world->followers = NULL;
+    PyObject *followers = world->followers, *names = world->names;
+    world->first = world->last = world->spare = NULL;
+    world->followers = world->names = NULL;
     drop_links(first);
     Py_XDECREF(spare);
     Py_XDECREF(followers);
+    Py_XDECREF(names);
 }
 
 int visit_queue(World *world, visitproc visit, void *arg)

@@ -2,6 +2,7 @@
 
 from __future__ import annotations
 
+from itertools import starmap
 from typing import TYPE_CHECKING, Any, Callable, Iterable, NamedTuple
 
 from . import _core
@@ -101,7 +102,7 @@ class MarkChange(NamedTuple):
 
     `widget` is the name of the widget whose `insert` or `current` it is, and "" for any other mark, which all peers
     share.  It was at the position `old` before the command, and is at `new` after it; None of a mark that wasn't there,
-    or isn't.
+    or isn't, as the marks of a destroyed widget.
     """
 
     mark: str
@@ -111,28 +112,33 @@ class MarkChange(NamedTuple):
 
 
 class Content(NamedTuple):
-    """The content of a report: the names of the command's widget and of all that showed its text, and what changed.
+    """The content of a report: the names of the followers' widgets that it concerns, and what changed.
 
-    Each change of a tag has the name of the widget whose `sel` it is, or "".
+    Each change of a tag has the name of the widget whose `sel` it is, or "", and each mark the names of the followers'
+    widgets that it concerns: a `destroy` may report marks of several texts.
     """
 
-    widget: str
-    shown: tuple[str, ...]
+    concerned: list[str]
     changes: list[Change]
     tags: list[tuple[TagChange, str]]
-    marks: list[MarkChange]
+    marks: list[tuple[MarkChange, list[str]]]
 
 
 def _position(parts: tuple[int, str] | None) -> Position | None:
     return None if parts is None else Position(*parts)
 
 
-def make_content(widget: str, peers: str, lists: tuple[list[Any], list[Any], list[Any]]) -> Content:
+def _mark(
+    mark: str, widget: str, old: tuple[int, str] | None, new: tuple[int, str] | None, names: list[str]
+) -> tuple[MarkChange, list[str]]:
+    return MarkChange(mark, widget, _position(old), _position(new)), names
+
+
+def make_content(concerned: list[str], lists: tuple[list[Any], list[Any], list[Any]]) -> Content:
     """Returns the content of a report, which the extension has as tuples."""
     changes = [Change(*change[:3], *map(Spot._make, change[3:])) for change in lists[0]]
     tags = [(TagChange(*change), owner) for *change, owner in lists[1]]
-    marks = [MarkChange(mark, owner, _position(old), _position(new)) for mark, owner, old, new in lists[2]]
-    return Content(widget, (widget, *_core.split_list(peers)), changes, tags, marks)
+    return Content(concerned, changes, tags, list(starmap(_mark, lists[2])))
 
 
 # ---- what concerns a widget
@@ -149,7 +155,7 @@ def tags_for(content: Content, name: str) -> list[TagChange]:
 
 
 def marks_for(content: Content, name: str) -> list[MarkChange]:
-    return list(content.marks)
+    return [change for change, names in content.marks if name in names]
 
 
 # In the order in which followers are called.
@@ -157,9 +163,9 @@ _PARTS = (changes_for, tags_for, marks_for)
 
 
 def part_of(report: _core.Report, part: Part, name: str) -> list[Any]:
-    """Returns one part of a report, if the widget of a name shows the text."""
+    """Returns one part of a report, if it concerns the widget of a name."""
     content = report.read()
-    return part(content, name) if content is not None and name in content.shown else []
+    return part(content, name) if content is not None and name in content.concerned else []
 
 
 class Follower:

@@ -883,7 +883,7 @@ class Text(_core.Widget):
         They follow the reports of `on_change` and `on_tags` for the same command.  A mark is reported if it isn't where
         the changes of the text take it (`Change.moved`), has another gravity, is new, or is gone, after `mark_set` as
         after an undo.  Any other mark is where the changes take it.  The marks are those of the text: the `insert` and
-        `current` of each peer, with the peer's name, and the shared ones.  Those of a destroyed widget aren't reported.
+        `current` of each peer, with the peer's name, and the shared ones.  `destroy` reports those of a peer as gone.
         Returns a function that ends the reports.
 
         >>> text = Text()

@@ -22,7 +22,7 @@ PyObject *raise_code(int32_t code)
 }
 
 /* Copies the line of the last command. */
-int copy_line(World *world, struct buffer *line, size_t *length)
+static int copy_line(World *world, struct buffer *line, size_t *length)
 {
     *length = tktext_said(&world->handle, line->bytes, line->size);
     if (*length <= line->size)
@@ -34,7 +34,7 @@ int copy_line(World *world, struct buffer *line, size_t *length)
 }
 
 /* Returns the line of the last command as `bytes`. */
-PyObject *line_of(World *world)
+static PyObject *line_of(World *world)
 {
     uint8_t few[FEW_BYTES];
     if (world->line != NULL) {
@@ -108,7 +108,7 @@ static PyObject *run(World *world, const struct words *words, int form)
     int needs_line = code == TKTEXT_FAULT || form != AS_NOTHING;
     if (code > TKTEXT_FAULT) {
         raise_code(code);
-    } else if (code >= 0 && (!needs_line || copy_line(world, &line, &length) == 0) && note_widgets(world) == 0) {
+    } else if (code >= 0 && (!needs_line || copy_line(world, &line, &length) == 0)) {
         answer = code == TKTEXT_FAULT ? raise_fault(world, words, &line, length)
             : answer_as(form, (const char *)line.bytes, length - TKTEXT_BEHIND);
     }
@@ -247,7 +247,7 @@ static PyObject *world_give(World *world, PyObject *given)
         return NULL;
     buffer_begin(&buffer);
     int32_t code = call_words(world, &words, &buffer);
-    int failed = code < 0 || note_widgets(world) < 0;
+    int failed = code < 0;
     if (!failed && is_noticed(world)) {
         PyObject *line = line_of(world);
         failed = line == NULL || notice_with_line(world, line) < 0;
@@ -290,7 +290,7 @@ static PyObject *world_next(World *world, PyObject *Py_UNUSED(nothing))
     if (code > TKTEXT_SCRIPT_FAULT)
         return raise_code(code);
     PyObject *line = code < 0 ? NULL : line_of(world);
-    if (line == NULL || note_widgets(world) < 0 || notice_with_line(world, line) < 0) {
+    if (line == NULL || notice_with_line(world, line) < 0) {
         Py_XDECREF(line);
         return NULL;
     }
@@ -323,11 +323,12 @@ static PyObject *world_followers(World *world, PyObject *Py_UNUSED(nothing))
 
 static PyObject *world_replace_followers(World *world, PyObject *arguments)
 {
-    PyObject *old, *new;
+    PyObject *old, *new, *names;
     int follows_marks;
-    if (!PyArg_ParseTuple(arguments, "O!O!p", &PyTuple_Type, &old, &PyTuple_Type, &new, &follows_marks))
+    if (!PyArg_ParseTuple(arguments, "O!O!O!p", &PyTuple_Type, &old, &PyTuple_Type, &new, &PyTuple_Type, &names,
+                          &follows_marks))
         return NULL;
-    int is_replaced = replace_followers(world, old, new, follows_marks);
+    int is_replaced = replace_followers(world, old, new, names, follows_marks);
     return is_replaced < 0 ? NULL : PyBool_FromLong(is_replaced);
 }
 

@@ -193,7 +193,8 @@ class World(_core.World):
             kept = [follower for follower in old if follower not in ended]
             kept += [follower for follower in added if follower not in old]
             new = tuple(sorted(kept, key=operator.attrgetter("rank")))
+            names = tuple(follower.text._name for follower in new)
             follows_marks = any(follower.follows_marks for follower in new)
             # Another thread, or a handler, may have changed them in the meantime.
-            if new == old or self._replace_followers(old, new, follows_marks):
+            if new == old or self._replace_followers(old, new, names, follows_marks):
                 return

@@ -6,7 +6,8 @@ use Rattle.documents.proofs.Common.{unsigned_tied, eq_by_cmp, nat_cmp, list_any,
 use Rattle.documents.proofs.Common.{bytes_eq-Decides, Named, AreTags, Tag, Tags, sel, slot_of, Slots, set_slot}
 use Rattle.documents.proofs.Common.{contains-set_slot, without, is_among, is_same, Key, Keys, is_shared, key_cmp}
 use Rattle.documents.proofs.Common.{key_pairs, keys_of, seat_pair, set_key, tag_pair, AreKnown, AreSeats, ◌==◌}
-use Rattle.name_list.specs.Names.{names_of, AreApart}
+use Rattle.documents.proofs.Common.{names_of}
+use Rattle.name_list.specs.Names.{AreApart}
 use Rattle.tag_table.specs.Tags.{names_of as tag_names}
 use Rattle.documents.proofs.KeyLaws.{key_cmp_total, key_cmp_exact}
 use Rattle.documents.proofs.LookupLaws.{AreApart-filter, has, looked-among, looked-any, and_none}

@@ -12,7 +12,6 @@ pub use Rattle.command_effects.proofs.MadeLaws.{absent_slot, among_slot, found_t
 pub use Rattle.command_effects.proofs.PairLaws.{spans_of-fit}
 pub use Rattle.command_effects.proofs.WrittenLaws.{filter-append, filter-in, filter-out, take-found}
 pub use Rattle.command_effects.specs.Edits.{excess, length_replaced, new_mark, with_own_marks, without_widget}
-pub use Rattle.command_effects.specs.Edits.{without_widgets}
 pub use Rattle.command_effects.specs.Faults.{at_position, index_fault}
 pub use Rattle.command_effects.specs.Listing.{begun, range_words}
 pub use Rattle.command_effects.specs.Lists.{Pair, all_names, listed_names, total, with_name, with_names}
@@ -52,8 +51,8 @@ pub use Rattle.documents.specs.Marks.{usable_marks, with_current, with_insert, w
 pub use Rattle.documents.specs.MarksListed.{AreListed, IsSettled, all_carried_within, carried_within, mark_taken}
 pub use Rattle.documents.specs.MarksListed.{shared_key}
 pub use Rattle.documents.specs.MarksTold.{AreCarried, AreOthers, AreSingle, AreWatched, HasMarksBut, IsMarkChange}
-pub use Rattle.documents.specs.MarksTold.{TakesMarksBut, TellsMarks, carried, carried_all, mark_at, mark_carried}
-pub use Rattle.documents.specs.MarksTold.{mark_key, mark_keys, own_keys, place_of_kind, watched}
+pub use Rattle.documents.specs.MarksTold.{TakesMarksBut, TellsMarks, carried, carried_all, gone, mark_at, mark_carried}
+pub use Rattle.documents.specs.MarksTold.{mark_key, mark_keys, marks_dropped, own_keys, place_of_kind, watched}
 pub use Rattle.documents.specs.Names.{key_of, mark_number, mark_place, meanings, place_of, tag_flags, tag_number}
 pub use Rattle.documents.specs.Options.{AreLines, IsLine, anchor_at, settings_of, widget_set, with_settings}
 pub use Rattle.documents.specs.Promise.{Change, Does, Gives, answered, change_with, edited, refused, unless_idle}
@@ -70,7 +69,7 @@ pub use Rattle.documents.specs.Told.{Foretells, TellsCells}
 pub use Rattle.documents.specs.Views.{is_idle, shown, shown_flags, view_end, view_start}
 pub use Rattle.documents.specs.WellFormed.{HasItsKeys, IsPlaced, IsWellFormedDocument, belongs, window_names}
 pub use Rattle.documents.specs.Widgets.{IsOpen, ShowsOpenly, is_kept, new_widget, widget_named, with_peer}
-pub use Rattle.documents.specs.Widgets.{without_selections}
+pub use Rattle.documents.specs.Widgets.{without_selections, without_widgets}
 pub use Rattle.documents.specs.declared.mark_lists.MarkChange.{MarkChange}
 pub use Rattle.documents.specs.declared.mark_lists.MarkKey.{MarkKey}
 pub use Rattle.documents.specs.declared.mark_lists.MarkKind.{MarkKind}
@@ -111,7 +110,7 @@ pub use Rattle.mark_table.specs.declared.order.Shown.{Shown}
 pub use Rattle.mark_table.specs.declared.order.WidgetMark.{WidgetMark}
 pub use Rattle.name_list.proofs.ListLaws.{AreApart-insert, Contains-from_stands, stands_from_Contains, stands_map}
 pub use Rattle.name_list.proofs.ListLaws.{stood_at}
-pub use Rattle.name_list.specs.Names.{AreNames, IsLeastFree, Named, Names, numbers_of}
+pub use Rattle.name_list.specs.Names.{AreNames, IsLeastFree, Named, Names, names_of, numbers_of}
 pub use Rattle.search_dump.specs.Dump.{dump_elements, name_of_rank, seen_by}
 pub use Rattle.std.proofs.Math.ListN.{replicate}
 pub use Rattle.std.proofs.lemmas.Bool.{false≢true, and_parts, cases_lt, eqb-false, false_from_ne_true, le-leb, le-ltb}
@@ -122,6 +121,7 @@ pub use Rattle.std.proofs.lemmas.List.{drop-drop, drop-take, drop_all, drop_at, 
 pub use Rattle.std.proofs.lemmas.List.{get_or-set_other, get_or-take, get_or_append_left, get_or_default, get_or_past}
 pub use Rattle.std.proofs.lemmas.List.{length-map, length-set, length-take-le, map-append, map-id, nil_from_length}
 pub use Rattle.std.proofs.lemmas.List.{replicate_more, take-append-drop, take-take, take_all, take_at, take_more}
+pub use Rattle.std.proofs.lemmas.List.Concat.{flat_map-append}
 pub use Rattle.std.proofs.lemmas.List.Elements.{All-append, All-cons, All-drop, All-from_get_or, All-get_or, All-head}
 pub use Rattle.std.proofs.lemmas.List.Elements.{All-map, All-more, All-nil, All-push, All-replicate, All-set, All-tail}
 pub use Rattle.std.proofs.lemmas.List.Elements.{All-take, All-weaker, Contains-append_cases, Contains-append_left}
@@ -142,7 +142,7 @@ pub use Rattle.std.specs.Option.{option_or}
 pub use Rattle.std.specs.Ordering.{eq_by_cmp, is_eq, nat_cmp}
 pub use Rattle.std.specs.Prelude.{Box, IsUtf8, box_value, codes, is_ok, reverse, unwrap_or}
 pub use Rattle.tag_table.specs.Priority.{next_to}
-pub use Rattle.tag_table.specs.Tags.{AreTags, Tag, Tags, first_slot, is_named, names_of, sel, slot_of, slots_of}
+pub use Rattle.tag_table.specs.Tags.{AreTags, Tag, Tags, first_slot, is_named, sel, slot_of, slots_of}
 pub use Rattle.tag_table.specs.declared.faults.NoSuchTag.TheVariants.{Moved, Neighbour}
 pub use Rattle.tcl_words.specs.ListGrowth.{Goes}
 pub use Rattle.tcl_words.specs.ListText.{list_text}

@@ -5,8 +5,7 @@ use Rattle.documents.proofs.Common.{slice_get-map, Named, numbers_of, stood_at, 
 use Rattle.documents.proofs.Common.{is_same, filter-in, filter-out, take-found, Key, is_shared, seat_pair, tag_pair}
 use Rattle.documents.proofs.Common.{TagChange, slice_get, ◌&&◌, ◌||◌, subst, All-nil, nat_cmp_total, HoldsSlots}
 use Rattle.documents.proofs.Common.{TellsRuns, All-weaker, or_left, or_right, eq_by_cmp, key_cmp, All-more, nat_cmp}
-use Rattle.documents.proofs.Common.{true≢false}
-use Rattle.name_list.specs.Names.{names_of}
+use Rattle.documents.proofs.Common.{true≢false, names_of}
 use Rattle.std.specs.Str.{chars}
 use Rattle.tag_table.specs.Tags.{names_of as tag_names}
 use Rattle.text_model.specs.SlotSets.{differing}

@@ -6,8 +6,8 @@ use Rattle.documents.proofs.Common.{known_tags, Cell, Content, Slots, flags, slo
 use Rattle.documents.proofs.Common.{cells_of, with_slot, without_slots, map-inserted, map-removed, map-changed}
 use Rattle.documents.proofs.Common.{map-alike, map-map, Span, shared_slots, cell_without, tagged, IsFront, bare}
 use Rattle.documents.proofs.Common.{with_key, with_tag, keys_between, common_keys, AreSeats, HasKnownSlots, Key, Keys}
-use Rattle.documents.proofs.Common.{keyed, keys_of, key_named, key_pairs, KeyedCell, slice_get, if◌then◌else◌}
-use Rattle.name_list.specs.Names.{names_of, AreApart}
+use Rattle.documents.proofs.Common.{keyed, keys_of, key_named, key_pairs, KeyedCell, slice_get, if◌then◌else◌, names_of}
+use Rattle.name_list.specs.Names.{AreApart}
 use Rattle.tag_table.specs.Tags.{names_of as tag_names}
 use Rattle.documents.proofs.BridgeLaws.{keys_of-empty, keys_of-extended, keys_of-has, keys_of-intersection}
 use Rattle.documents.proofs.BridgeLaws.{keys_of-left, keys_of-reordered, keys_of-set_slot}

@@ -9,6 +9,7 @@ pub mod ChangeLaws
 pub mod ClearedLaws
 pub mod Common
 pub mod DeltaLaws
+pub mod DroppedMarksLaws
 pub mod EditLeadLaws
 pub mod EditedLaws
 pub mod FindLaws

@@ -29,10 +29,10 @@ by-kind P inserts currents shares key = by key.kind key.name
     by Current name = currents name
     by Shared name = shares name
 
-apart-kinds : (a b : List ℕ) → insert_key a ≢ current_key b
+pub apart-kinds : (a b : List ℕ) → insert_key a ≢ current_key b
 apart-kinds a b same = (let kinds : Insert ≡ Current = ap (λ (key : MarkKey). key.kind) same in absurd (cc))
 
-apart-current : (a b : List ℕ) → current_key a ≢ insert_key b
+pub apart-current : (a b : List ℕ) → current_key a ≢ insert_key b
 apart-current a b same = apart-kinds b a (sym same)
 
 apart-shared : (a b : List ℕ) → shared_key a ≢ insert_key b

@@ -7,8 +7,7 @@ use Rattle.documents.proofs.Common.{ends_in_newline, LimitTable, lines, FitsText
 use Rattle.documents.proofs.Common.{limited, no_history, AreAnchored, text-end-begins, DocumentSettings, Settings}
 use Rattle.documents.proofs.Common.{history_under, is_behind, is_same, Document, Widget, KeyedCell, characters}
 use Rattle.documents.proofs.Common.{AreLines, settings_of, widget_set, with_settings, IsPlaced, IsWellFormedDocument}
-use Rattle.documents.proofs.Common.{is_kept, new_widget, with_peer, without_selections, filter}
-use Rattle.documents.specs.Widgets.{without_widgets}
+use Rattle.documents.proofs.Common.{is_kept, new_widget, with_peer, without_selections, filter, without_widgets}
 use Rattle.documents.proofs.LeadLaws.{Leads, Page, anchors_of}
 use Rattle.documents.proofs.WidgetLaws.{anchor-line, lines-anchored}
 

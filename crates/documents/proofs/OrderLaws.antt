@@ -4,7 +4,8 @@ use Rattle.documents.proofs.Common.{Result, Ok, Err, length, refl, sym, ap, ap�
 use Rattle.documents.proofs.Common.{bytes_eq, is_some, slice_get, if◌then◌else◌, false_from_ne_true, none-some}
 use Rattle.documents.proofs.Common.{same_Some, bytes_eq-Decides, Moved, Neighbour, next_to, Tag, slot_of, lowered}
 use Rattle.documents.proofs.Common.{raised, is_among, is_same, AreApart-head, AreApart-tail, length-append, option_map}
-use Rattle.documents.proofs.Common.{is_named, names_of}
+use Rattle.documents.proofs.Common.{is_named}
+use Rattle.tag_table.specs.Tags.{names_of}
 use Rattle.name_list.specs.Names.{AreApart}
 use Rattle.name_list.specs.Moves.{put_before, put_behind, without}
 use Rattle.tag_table.specs.Priority as table

@@ -2,7 +2,8 @@
 use Rattle.documents.proofs.Common.{◌≡◌, ℕ, true, false, List, Option, None, Some, Ok, Err, refl, sym, ap, ap₂, subst}
 use Rattle.documents.proofs.Common.{◌∙◌, ◌+◌, same_Some, Moved, Neighbour, next_to, Tag, Empty, NoSuchTag, answered}
 use Rattle.documents.proofs.Common.{refused, known_or, reordered, Document, is_among, find, bytes_eq, is_some}
-use Rattle.documents.proofs.Common.{if◌then◌else◌, is_named, names_of}
+use Rattle.documents.proofs.Common.{if◌then◌else◌, is_named}
+use Rattle.tag_table.specs.Tags.{names_of}
 use Rattle.documents.proofs.OrderLaws.{IsOrdered, Order, found_among, known_found, same_Err}
 use Rattle.tag_table.specs.declared.faults.NoSuchTag as table_fault
 use Rattle.tag_table.specs.Priority as table

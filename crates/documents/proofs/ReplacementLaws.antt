@@ -8,7 +8,8 @@ use Rattle.documents.proofs.Common.{recording_of, piece_of, replace_span, replac
 use Rattle.documents.proofs.Common.{Widget, document_of, mark_of, widget_at, with_texts, without_span, Stands}
 use Rattle.documents.proofs.Common.{with_insert, Change, false, refused, insertion_offset, is_idle, tags_with, Content}
 use Rattle.documents.proofs.Common.{None, Option, Result, Some, option_map, edited, Action, [], ◌∷◌, insertion}
-use Rattle.documents.proofs.Common.{deletion, joined_text, characters, names_of}
+use Rattle.documents.proofs.Common.{deletion, joined_text, characters}
+use Rattle.tag_table.specs.Tags.{names_of}
 use Rattle.edit_ops.specs.Removals.{with_mark}
 use Rattle.edit_ops.proofs.ReplaceLaws.{found-within}
 use Rattle.documents.proofs.ChangeLaws.{Leaves, does-changed}

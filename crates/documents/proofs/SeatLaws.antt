@@ -3,8 +3,7 @@ use Rattle.documents.proofs.Common.{◌≡◌, ℕ, Bool, cond, zero, suc, ◌+�
 use Rattle.documents.proofs.Common.{drop, length, refl, sym, ap, subst, ◌∙◌, arith, remove, filter, not, Some}
 use Rattle.documents.proofs.Common.{map-append, length-append, none-some, same_Some, Named, numbers_of, is_among}
 use Rattle.documents.proofs.Common.{filter-append, filter-in, filter-out, take-found, Goes, numbers_gone, seats_left}
-use Rattle.documents.proofs.Common.{slice_get, append_assoc}
-use Rattle.name_list.specs.Names.{names_of}
+use Rattle.documents.proofs.Common.{slice_get, append_assoc, names_of}
 use Rattle.tcl_words.proofs.ListGrowth.{goes_on}
 
 -- the seat of a name at a place

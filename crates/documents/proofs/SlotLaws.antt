@@ -7,8 +7,8 @@ use Rattle.documents.proofs.Common.{Contains-append_right, none-some, same_Some,
 use Rattle.documents.proofs.Common.{AreNames, Named, Names, Contains-from_stands, stands_from_Contains, stands_map}
 use Rattle.documents.proofs.Common.{stood_at, MOST_WIDGETS, AreTags, Tag, Tags, sel, slot_of, known_tags, IsFront}
 use Rattle.documents.proofs.Common.{is_same, Key, is_shared, key_named, key_pairs, pair_slots, seat_pair, tag_pair}
-use Rattle.documents.proofs.Common.{AreSeats, slice_get, if◌then◌else◌}
-use Rattle.name_list.specs.Names.{names_of, AreApart}
+use Rattle.documents.proofs.Common.{AreSeats, slice_get, if◌then◌else◌, names_of}
+use Rattle.name_list.specs.Names.{AreApart}
 use Rattle.name_list.proofs.ListLaws.{Stands}
 use Rattle.tag_table.specs.Tags.{names_of as tag_names}
 use Rattle.documents.proofs.LookupLaws.{filter_stood, looked, looked-filter, looked-front, looked-stands}

@@ -12,7 +12,7 @@ use Rattle.documents.proofs.Common.{Widget, document_of, widget_at, with_key, wi
 use Rattle.documents.proofs.Common.{set_key, Stands, key_of, Change, answered, refused, spans_shown, add_spans}
 use Rattle.documents.proofs.Common.{remove_spans, IsTagChange, TellsSpan, TellsSpans, TellsTags, flags_of, Foretells}
 use Rattle.documents.proofs.Common.{TagChange, slice_get, nat_lt, if◌then◌else◌, next-alike, AreGapped, AreApart}
-use Rattle.name_list.specs.Names.{names_of}
+use Rattle.documents.proofs.Common.{names_of}
 use mathlib.Core.Bool.{beq}
 use Rattle.std.proofs.lemmas.List.Edits.{split_between}
 use Rattle.edit_ops.proofs.DeltaLaws.{apart-at}

@@ -3,7 +3,8 @@ use Rattle.documents.proofs.Common.{◌≡◌, ℕ, ◌≤◌, Bool, true, false
 use Rattle.documents.proofs.Common.{length, map, refl, sym, ap, subst, ◌∙◌, arith, length-map, map-map, AreTags, Tag}
 use Rattle.documents.proofs.Common.{Tags, Cell, Content, LimitTable, Log, cell_without, cleared, Empty, NoSuchTag}
 use Rattle.documents.proofs.Common.{slots_deleted, tags_left, stays, Document, Parts, document_of, Stands, answered}
-use Rattle.documents.proofs.Common.{reordered, tag_delete, without_tags, names_of}
+use Rattle.documents.proofs.Common.{reordered, tag_delete, without_tags}
+use Rattle.tag_table.specs.Tags.{names_of}
 use Rattle.documents.proofs.ChangeLaws.{Leaves, does-left, stands-same}
 use Rattle.documents.proofs.ClearedLaws.{keyed-deleted, known-deleted, names_left}
 use Rattle.documents.proofs.KeyedLaws.{keyed-reordered}

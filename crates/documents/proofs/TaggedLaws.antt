@@ -5,7 +5,8 @@ use Rattle.documents.proofs.Common.{get_or-drop, get_or-take, length-drop, lengt
 use Rattle.documents.proofs.Common.{get_or_from_slice_get, none-some, known_tags, Tag, Cell, flag_at, Content, Slots}
 use Rattle.documents.proofs.Common.{flags, slot_sets, own_slot, is_among, Document, KeyedCell, Parts, Widget, widget_at}
 use Rattle.documents.proofs.Common.{key_named, Stands, tags_on, shown, shown_flags, view_end, view_start, None, Some}
-use Rattle.documents.proofs.Common.{filter, names_of}
+use Rattle.documents.proofs.Common.{filter}
+use Rattle.tag_table.specs.Tags.{names_of}
 use Rattle.documents.specs.Tags.{flags_of}
 use Rattle.documents.proofs.SlotLaws.{known_standing}
 use Rattle.documents.proofs.SpanLaws.{slot_known, slot_unknown}

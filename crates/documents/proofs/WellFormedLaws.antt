@@ -6,7 +6,8 @@ use Rattle.documents.proofs.Common.{LimitTable, IsLineStart, Named, Tag, Tags, A
 use Rattle.documents.proofs.Common.{is_among, AreApart-head, AreApart-tail, found_tag, Key, keyed, Document, Parts}
 use Rattle.documents.proofs.Common.{Widget, anchors_at, characters, document_of, whole, widget_of, IsSeated, IsSound}
 use Rattle.documents.proofs.Common.{is_window_name, belongs, HasItsKeys, IsPlaced, IsWellFormedDocument, window_names}
-use Rattle.documents.proofs.Common.{◌&&◌, not, map, None, Some, names_of}
+use Rattle.documents.proofs.Common.{◌&&◌, not, map, None, Some}
+use Rattle.tag_table.specs.Tags.{names_of}
 use Rattle.name_list.specs.Names.{AreApart, names_of as names_of_seats}
 use Rattle.std.specs.List.{IsDistinct}
 use Rattle.mark_table.specs.SharedMarks.{names_of as names_of_marks}

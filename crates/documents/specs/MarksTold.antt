@@ -1,15 +1,16 @@
 -- Which marks a report has: those that its changes of the text alone would not take to where they are.
 use Rattle.std.specs.Prelude.{◌≡◌, ◌≢◌, ◌≤◌, ℕ, ◌+◌, ◌^◌, List, [], ◌∷◌, ◌++◌, length, find, flat_map, map, ⊤}
-use Rattle.std.specs.Prelude.{Option, IfSome, option_map, if◌then◌else◌}
+use Rattle.std.specs.Prelude.{filter, Option, None, IfSome, option_map, if◌then◌else◌}
 use Rattle.std.specs.List.{All}
 use Rattle.text_model.specs.Splices.{drawn, moved}
 use Rattle.text_model.specs.declared.places.Place.{Place}
 use Rattle.edit_ops.specs.Told.{AreFalling, Tells}
 use Rattle.edit_ops.specs.declared.changes.TextChange.{TextChange}
-use Rattle.command_effects.specs.Words.{is_same, literal}
+use Rattle.command_effects.specs.Words.{is_among, is_same, literal}
 use Rattle.documents.specs.Documents.{characters, Document, SharedMark, Widget}
 use Rattle.documents.specs.Promise.{Change}
 use Rattle.documents.specs.Told.{TellsCells}
+use Rattle.documents.specs.WellFormed.{window_names}
 use Rattle.documents.specs.Widgets.{widget_named}
 use Rattle.documents.specs.declared.mark_lists.MarkChange.{MarkChange}
 use Rattle.documents.specs.declared.mark_lists.MarkKey.{MarkKey}
@@ -107,3 +108,14 @@ pub record AreCarried (changes : List TextChange) (old new : Document) : Type 0 
   pub falling : AreFalling changes
   pub short : (length old.cells ≤ 2 ^ 60) × (length new.cells ≤ 2 ^ 60)
   pub stand : (key : MarkKey) → IfSome (mark_at old key) (λ place. place.offset ≤ length old.cells)
+
+-- ---- marks that go with their widgets
+
+-- a mark as it is before a command, and gone after it
+abbrev pub gone : Document → MarkKey → MarkChange
+gone document key = record { key = key; old = mark_at document key; new = None }
+
+-- the marks of the widgets of some names, in the order of the widgets
+abbrev pub marks_dropped : List (List ℕ) → Document → List MarkChange
+marks_dropped names document =
+    map (gone document) (flat_map own_keys (filter (λ name. is_among name names) (window_names document)))

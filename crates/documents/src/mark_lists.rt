@@ -1,6 +1,6 @@
 //! Marks, as they are reported: those that the reported changes of the text alone don't take to where they are.
 
-ghost use Rattle.std.specs.Prelude.{◌≡◌, ◌++◌, ◌∷◌, [], chars, length, map, option_map, IfOk, OnOk};
+ghost use Rattle.std.specs.Prelude.{◌≡◌, ◌++◌, ◌∷◌, [], None, chars, length, map, option_map, IfOk, OnOk};
 ghost use Rattle.documents.specs.MarksListed.{all_carried_within, carried_within, mark_taken};
 
 use edit_ops::TextChange;
@@ -117,6 +117,18 @@ impl MarkList {
             key,
             old: place,
             new: place,
+        })?;
+        Ok(())
+    }
+
+    /// Adds a mark that was at a place, or wasn't there, and is gone.
+    pub(crate) fn push_gone(&mut self, key: MarkKey, place: Option<Place>) -> Result<(), AllocError>
+        ensures { OnOk result (self.new ≡ self.old ++ record { key = key; old = place; new = None } ∷ []) }
+    {
+        self.marks.push(MarkChange {
+            key,
+            old: place,
+            new: None,
         })?;
         Ok(())
     }

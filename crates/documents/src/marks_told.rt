@@ -8,12 +8,13 @@ ghost use Rattle.documents.specs.Documents.{Document as DocumentState, widget_at
 ghost use Rattle.documents.specs.Marks.{mark_unset};
 ghost use Rattle.documents.specs.MarksListed.{AreListed, IsSettled};
 ghost use Rattle.documents.specs.MarksTold.{AreCarried, AreOthers, AreWatched, HasMarksBut, TellsMarks};
-ghost use Rattle.documents.specs.MarksTold.{mark_at, mark_carried, mark_key, mark_keys, own_keys, watched};
+ghost use Rattle.documents.specs.MarksTold.{gone, mark_at, mark_carried, mark_key, mark_keys, marks_dropped};
+ghost use Rattle.documents.specs.MarksTold.{own_keys, watched};
 ghost use Rattle.documents.specs.declared.mark_lists.MarkKey.{MarkKey as Key};
 
 use crate::documents::Document;
 use crate::mark_lists::{MarkChange, MarkKey, MarkKind, MarkList};
-use command_effects::is_word;
+use command_effects::{is_among, is_word};
 use edit_ops::ChangeList;
 use mark_table::WidgetMark;
 use std::alloc::AllocError;
@@ -136,6 +137,43 @@ impl<S: TextStore> Document<S> {
             self.push_shared(&mut marks, &mut seen, name.as_str())?;
         }
         Ok(marks)
+    }
+
+    /// Adds the mark of a key as one that is gone.
+    fn push_gone_mark(
+        &self,
+        marks: &mut MarkList,
+        kind: MarkKind,
+        name: &str,
+    ) -> Result<(), AllocError>
+        ensures { OnOk result
+            (marks.new ≡ marks.old ++ gone self.now (record { kind = kind; name = chars name.now }) ∷ []) }
+    {
+        let key = MarkKey::new(self.alloc, kind, name)?;
+        let place = self.mark_at(&key);
+        marks.push_gone(key, place)
+    }
+
+    /// Adds the two marks of a widget of a name as marks that are gone.
+    fn push_gone_marks(&self, marks: &mut MarkList, name: &str) -> Result<(), AllocError>
+        ensures { OnOk result (marks.new ≡ marks.old ++ map (gone self.now) (own_keys (chars name.now))) }
+    {
+        self.push_gone_mark(marks, MarkKind::Insert, name)?;
+        self.push_gone_mark(marks, MarkKind::Current, name)
+    }
+
+    /// Adds the marks of the widgets of some names, which go with these widgets (`drop_widgets`). Unknown names are
+    /// skipped.
+    pub fn list_dropped(&self, marks: &mut MarkList, names: &[String]) -> Result<(), AllocError>
+        ensures { OnOk result (marks.new ≡ marks.old ++ marks_dropped (texts_of names.now) self.now) }
+    {
+        for seat in 0..self.seats.len() {
+            let name = self.seats.name(seat);
+            if is_among(name, names) {
+                self.push_gone_marks(marks, name)?;
+            }
+        }
+        Ok(())
     }
 
     /// Sets where a mark is now, and returns whether it was expected somewhere else.

@@ -10,15 +10,16 @@ pub use Rattle.handles.specs.Calls.{Called, Calls, Fed, Feeds, Gives, Takes, Tur
 pub use Rattle.handles.specs.Held.{frees, held_value}
 pub use Rattle.handles.specs.Room.{Copied, over}
 pub use Rattle.handles.specs.State.{State, Telling, memory_said, said_text, state_of}
-pub use Rattle.handles.specs.Told.{CalledTold, CallsTold, GivesTold, IsTold, TakesTold, TurnsTold, bytes_of, mark_name}
-pub use Rattle.handles.specs.Told.{mark_place_in, mark_told, mark_widget, owner_told, place_of, span_in, spot_in}
-pub use Rattle.handles.specs.Told.{tag_name, tag_told, tag_widget, text_told, untold, widget_by, widget_told}
-pub use Rattle.handles.specs.Told.{word_given}
+pub use Rattle.handles.specs.Told.{CalledTold, CallsTold, GivesTold, IsTold, TakesTold, TurnsTold, bytes_of, has_lost}
+pub use Rattle.handles.specs.Told.{mark_concerns, mark_name, mark_place_in, mark_told, mark_widget, owner_told}
+pub use Rattle.handles.specs.Told.{place_of, span_in, spot_in, tag_name, tag_told, tag_widget, text_told, untold}
+pub use Rattle.handles.specs.Told.{widget_by, widget_told, word_given}
 pub use Rattle.handles.specs.Words.{AreLengths, AreTexts, cut, total, words_at}
 pub use Rattle.handles.specs.declared.ends.CallEnd.{CallEnd}
 pub use Rattle.handles.specs.declared.ends.Given.{Given}
 pub use Rattle.handles.specs.declared.ends.TurnEnd.{TurnEnd}
 pub use Rattle.handles.specs.declared.session.Session.{Session}
+pub use Rattle.peers.specs.Concerned.{homes_asked, text_of_words}
 pub use Rattle.std.proofs.lemmas.List.{drop_more, length-append, length-drop, map-append}
 pub use Rattle.std.proofs.lemmas.Str.{IsUtf8-drop, IsUtf8-take, encodes-chars}
 pub use Rattle.std.proofs.raw_atomic.Walks.{leaves, proved_at}

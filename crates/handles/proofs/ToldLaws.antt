@@ -97,6 +97,14 @@ gives_told-answer marks old new world words shown answer telling outcome same ma
     (subst (λ (n : State). GivesTold marks old words n given.Answer) (sym said)
     (plain.0, λ i. record (path i) { told = telling }, told))
 
+-- memory is refused before the command, and that is said
+pub gives_told-memory : (marks : Bool) (old new : State) (words : List (List ℕ)) (outcome : Given)
+    → new ≡ replied old old.world words (Err fault.Memory) → outcome ≡ given_of (Err fault.Memory)
+    → GivesTold marks old words new outcome
+gives_told-memory marks old new words outcome said is =
+    subst (λ (g : Given). GivesTold marks old words new g) (sym is)
+    (subst (λ (n : State). GivesTold marks old words n given.Memory) (sym said) (gives-memory old old.world words refl))
+
 -- the command is refused, and its fault is said
 pub gives_told-fault : (marks : Bool) (old new : State) (world : World) (words shown : List (List ℕ)) (cause : Fault)
     (outcome : Given)

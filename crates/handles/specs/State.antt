@@ -1,11 +1,12 @@
 -- What a caller in C sees of a session.
-use Rattle.std.specs.Prelude.{ℕ, List, [], Some, Err, encode_utf8_all}
+use Rattle.std.specs.Prelude.{ℕ, List, [], Option, Some, None, Err, encode_utf8_all}
 use Rattle.text_model.specs.LimitTable.{LimitTable}
 use Rattle.tcl_words.specs.Unread.{Unread, nothing_fed, texts_of}
 use Rattle.edit_ops.specs.declared.changes.TextChange.{TextChange}
 use Rattle.command_effects.specs.declared.answers.Fault.TheVariants.{Memory}
 use Rattle.documents.specs.declared.mark_lists.MarkChange.{MarkChange}
 use Rattle.documents.specs.declared.tag_lists.TagChange.{TagChange}
+use Rattle.peers.specs.Windows.{Homes}
 use Rattle.peers.specs.World.{World}
 use Rattle.printing.specs.Lines.{piece}
 use Rattle.script_cli.specs.Run.{last_piece, no_documents}
@@ -15,17 +16,25 @@ use Rattle.handles.specs.declared.session.Said.TheVariants.{Nothing, Reply, Faul
 use Rattle.handles.specs.declared.session.Session.{Session}
 
 -- what a command told: the changes of a text and of its tags, and the marks that these alone don't take to where they
--- are
+-- are; the place of the document whose text it is; and where each widget was before `destroy` dropped some
 pub record Telling : Type 0 where
   pub changes : List TextChange
   pub tags : List TagChange
   pub marks : List MarkChange
+  pub text : Option ℕ
+  pub homes : Homes
 
 abbrev pub nothing_told : Telling
-nothing_told = record { changes = []; tags = []; marks = [] }
+nothing_told = record { changes = []; tags = []; marks = []; text = None; homes = [] }
 
 abbrev pub telling_of : Report → Telling
-telling_of report = record { changes = report.edit.changes; tags = report.edit.tags; marks = report.marks }
+telling_of report = record {
+  changes = report.edit.changes;
+  tags = report.edit.tags;
+  marks = report.marks;
+  text = report.text;
+  homes = report.homes;
+}
 
 -- the world, what is still to be read of the script that is fed, the words of the command that was given last, the
 -- bytes that were said then, what the last command that tells told, and the script's status

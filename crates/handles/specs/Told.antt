@@ -1,6 +1,6 @@
 -- What a command that tells makes of a session, and what C reads of it.
-use Rattle.std.specs.Prelude.{◌≡◌, ℕ, Bool, true, false, List, [], Option, Some, None, IsSome, is_ok, slice_get}
-use Rattle.std.specs.Prelude.{encode_utf8_all, option_map, ◌==◌, if◌then◌else◌}
+use Rattle.std.specs.Prelude.{◌≡◌, ℕ, Bool, true, false, ◌||◌, List, [], ◌∷◌, length, Option, Some, None, IsSome}
+use Rattle.std.specs.Prelude.{is_ok, slice_get, chars, encode_utf8_all, option_map, ◌==◌, IsUtf8, if◌then◌else◌}
 use Rattle.text_model.specs.declared.places.Place.{Place}
 use Rattle.tcl_words.specs.Unread.{TakesCommand}
 use Rattle.edit_ops.specs.declared.changes.TextChange.{TextChange}
@@ -11,10 +11,12 @@ use Rattle.documents.specs.declared.mark_lists.MarkChange.{MarkChange}
 use Rattle.documents.specs.declared.mark_lists.MarkKind.{MarkKind}
 use Rattle.documents.specs.declared.mark_lists.MarkKind.TheVariants.{Insert, Current, Shared}
 use Rattle.documents.specs.declared.tag_lists.TagChange.{TagChange}
+use Rattle.peers.specs.Concerned.{homes_asked, is_at, is_one, text_of_words}
 use Rattle.peers.specs.Step.{step}
 use Rattle.peers.specs.MarksTold.{MarksTellOf}
 use Rattle.peers.specs.Told.{TellsOf}
-use Rattle.peers.specs.World.{World}
+use Rattle.peers.specs.Windows.{Homes, home_in}
+use Rattle.peers.specs.World.{World, home}
 use Rattle.handles.specs.declared.ends.Given.{Given}
 use Rattle.handles.specs.declared.ends.Given.TheVariants as given
 use Rattle.handles.specs.declared.ends.CallEnd.{CallEnd}
@@ -33,11 +35,17 @@ use Rattle.handles.specs.Words.{cut, words_at, AreLengths, AreTexts}
 abbrev pub untold : State → State
 untold old = record old { told = nothing_told }
 
+-- which text the report of a command of these words is of, and where each widget was, if `destroy` dropped marks
+abbrev pub IsOfText : (marks : Bool) → World → World → List (List ℕ) → Telling → Type 0
+IsOfText marks old new words told =
+    (told.text ≡ text_of_words new words) × (told.homes ≡ homes_asked marks old.documents words)
+
 -- the report of a command of these words that made a world of another; it has no marks, unless they are asked for
 abbrev pub IsTold : (marks : Bool) → World → World → List (List ℕ) → Telling → Type 0
 IsTold marks old new words told =
     TellsOf old new words (record { changes = told.changes; tags = told.tags })
     × (marks ≡ true → MarksTellOf old new words told.changes told.marks) × (marks ≡ false → told.marks ≡ [])
+    × IsOfText marks old new words told
 
 -- From old to new a command is answered, and what it changed is told; or it is refused, which tells nothing.
 abbrev pub GivesTold : (marks : Bool) → State → List (List ℕ) → State → Given → Type 0
@@ -186,3 +194,46 @@ mark_place_in (Some mark) end = place_by mark end
 
 abbrev pub mark_place_told : List MarkChange → ℕ → ℕ → Option Place
 mark_place_told marks index end = mark_place_in (slice_get marks index) end
+
+-- ---- which widgets a report concerns
+
+-- whether two widgets showed one document
+abbrev pub were_one : Homes → List ℕ → List ℕ → Bool
+were_one homes one other = is_one (home_in one homes) (home_in other homes)
+
+-- whether one of the marks is of a widget that showed one document with the widget of a name
+abbrev pub has_lost : Homes → List ℕ → List MarkChange → Bool
+has_lost homes name [] = false
+has_lost homes name (mark ∷ marks) = were_one homes mark.key.name name || has_lost homes name marks
+
+-- whether a report concerns the widget of a name: it shows the text of the command's widget, or a text that lost a
+-- widget by `destroy`
+abbrev pub concerns_at : Telling → List ℕ → Option ℕ → Bool
+concerns_at told name None = false
+concerns_at told name (Some place) = is_at told.text place || has_lost told.homes name told.marks
+
+abbrev pub concerns : World → Telling → List ℕ → Bool
+concerns world told name = concerns_at told name (home name world.documents)
+
+-- whether one of its marks concerns a widget that the report concerns: of `destroy` a mark of the widget's text, and
+-- else any
+abbrev pub mark_concerns : Homes → List ℕ → Option MarkChange → Bool
+mark_concerns homes name None = false
+mark_concerns homes name (Some mark) = (length homes == 0) || were_one homes mark.key.name name
+
+-- the same of a report and of a session that are behind handles
+abbrev pub concerned : Option State → Option Telling → List ℕ → Bool
+concerned (Some state) (Some told) name = concerns state.world told name
+concerned state told name = false
+
+abbrev pub mark_concerned : Telling → ℕ → List ℕ → Bool
+mark_concerned told index name = mark_concerns told.homes name (slice_get told.marks index)
+
+-- Bytes that aren't UTF-8 are no widget's name.
+abbrev pub Concerns : Option State → Option Telling → List ℕ → Bool → Type 0
+Concerns state told name answer =
+    (IsUtf8 name → answer ≡ concerned state told (chars name)) × (¬ IsUtf8 name → answer ≡ false)
+
+abbrev pub MarkConcerns : Option Telling → ℕ → List ℕ → Bool → Type 0
+MarkConcerns told index name answer =
+    (IsUtf8 name → answer ≡ mark_concerned (told_of told) index (chars name)) × (¬ IsUtf8 name → answer ≡ false)

@@ -3,7 +3,7 @@ ghost use Rattle.std.specs.Prelude.{◌≡◌, None, true, false, length, min, o
 ghost use Rattle.handles.specs.Calls.{Makes, Calls, Feeds, Takes, Tells, can_by, finished};
 ghost use Rattle.handles.specs.Handles.{reported, said_of, state, status_of};
 ghost use Rattle.handles.specs.Room.{over};
-ghost use Rattle.handles.specs.Told.{word_given, words_of, CallsTold, MovesReport, TakesTold};
+ghost use Rattle.handles.specs.Told.{word_given, words_of, CallsTold, Concerns, MovesReport, TakesTold};
 
 use crate::ends::{CallEnd, FeedEnd, MakeEnd, MoveEnd, TurnEnd, Way};
 use crate::handle::Handle;
@@ -115,6 +115,23 @@ impl Handle {
         self.put(session);
         into.put(report);
         MoveEnd::Moved
+    }
+
+    /// Whether a report, which was just moved out of the session, concerns the widget of a name.
+    pub fn concerns(&mut self, alloc: Global, report: &mut ReportHandle, name: &[u8]) -> bool
+        ensures told { Concerns (state self.old) (reported report.old) name.now result }
+        ensures unchanged { state self.new ≡ state self.old }
+        ensures kept { reported report.new ≡ reported report.old }
+    {
+        if !self.full || !report.full {
+            return false;
+        }
+        let session = self.take(alloc);
+        let taken = report.take(alloc);
+        let told = session.concerns(&taken, name);
+        self.put(session);
+        report.put(taken);
+        told
     }
 
     /// Whether `edit undo` or `edit redo` would find a group in the text that the widget of a name shows.

@@ -1,21 +1,26 @@
 //! What a command that reports changed, as a value of its own, and what C reads of it.
-ghost use Rattle.std.specs.Prelude.{◌≡◌, chars, length, min};
+ghost use Rattle.std.specs.Prelude.{◌≡◌, Some, chars, length, min};
+ghost use Rattle.peers.specs.Concerned.{is_at};
 ghost use Rattle.handles.specs.Room.{over};
 ghost use Rattle.handles.specs.State.{nothing_told, telling_of};
 ghost use Rattle.handles.specs.Told.{mark_name, mark_place_told, mark_told, mark_widget, owner_told, place_by};
 ghost use Rattle.handles.specs.Told.{place_told, span_told, spot_of, spot_told, tag_name, tag_told, tag_widget};
-ghost use Rattle.handles.specs.Told.{text_told, widget_told};
+ghost use Rattle.handles.specs.Told.{has_lost, mark_concerned, mark_concerns, text_told, were_one, widget_told};
+ghost use Rattle.handles.specs.Told.{MarkConcerns};
 
 use crate::room::copy_whole;
-use peers::{EditTold, MarkChange, MarkKind, MarkList, Spot, TagChange, TextChange};
+use peers::{EditTold, MarkChange, MarkKind, MarkList, Spot, TagChange, TextChange, Windows};
 use std::alloc::Global;
 use text_model::Place;
 
-/// The changes of a text and of its tags, and the marks that these alone don't take to where they are.
+/// The changes of a text and of its tags, and the marks that these alone don't take to where they are; the place of the
+/// document whose text it is; and where each widget was before `destroy` dropped some.
 #[derive(Drop)]
 pub struct Report {
     pub(crate) edit: EditTold,
     pub(crate) marks: MarkList,
+    pub(crate) text: Option<usize>,
+    pub(crate) homes: Windows,
 }
 
 impl Report {
@@ -26,6 +31,8 @@ impl Report {
         Report {
             edit: EditTold::nothing(alloc),
             marks: MarkList::new(alloc),
+            text: None,
+            homes: Windows::new(alloc),
         }
     }
 
@@ -151,6 +158,74 @@ impl Report {
             None => None,
             Some(mark) => place_by(mark, end),
         }
+    }
+
+    /// Whether two widgets showed one text before `destroy` dropped some.
+    fn were_one(&self, one: &str, other: &str) -> bool
+        ensures { result ≡ were_one (telling_of self.now).homes (chars one.now) (chars other.now) }
+    {
+        match self.homes.home(other) {
+            None => false,
+            Some(place) => is_at(self.homes.home(one), place),
+        }
+    }
+
+    /// Whether the report is of the text of the document at a place.
+    pub(crate) fn is_of(&self, place: usize) -> bool
+        ensures { result ≡ is_at (telling_of self.now).text place }
+    {
+        is_at(self.text, place)
+    }
+
+    /// Whether one of the marks is of a widget that showed one text with the widget of a name, before `destroy` dropped
+    /// it. Each mark costs two look-ups of a name.
+    pub(crate) fn has_lost(&self, name: &str) -> bool
+        ensures { result ≡ has_lost (telling_of self.now).homes (chars name.now) (telling_of self.now).marks }
+    {
+        for mark in self.marks.as_slice() {
+            if self.were_one(mark.key.name.as_str(), name) {
+                return true;
+            }
+        }
+        false
+    }
+
+    /// Whether a mark concerns the widget of a name, which the report concerns: of `destroy` a mark of its text, and
+    /// else any.
+    fn mark_concerns(&self, mark: &MarkChange, name: &str) -> bool
+        ensures { result ≡ mark_concerns (telling_of self.now).homes (chars name.now) (Some mark.now) }
+    {
+        self.homes.len() == 0 || self.were_one(mark.key.name.as_str(), name)
+    }
+
+    /// The same of the mark at an index; false if there is no such mark.
+    fn concerns_mark_at(&self, index: usize, name: &str) -> bool
+        ensures { result ≡ mark_concerned (telling_of self.now) index (chars name.now) }
+    {
+        match self.marks.as_slice().get(index) {
+            None => false,
+            Some(mark) => self.mark_concerns(mark, name),
+        }
+    }
+
+    /// The same of a name in UTF-8; false if it is no such name.
+    pub(crate) fn concerns_mark(&self, index: usize, name: &[u8]) -> bool
+        ensures { MarkConcerns (Some (telling_of self.now)) index name.now result }
+    {
+        let Ok(name) = str::from_utf8(name) else {
+            return false;
+        };
+        self.concerns_mark_at(index, name)
+    }
+}
+
+/// Whether a document is the one at a place.
+fn is_at(document: Option<usize>, place: usize) -> bool
+    ensures { result ≡ is_at document place }
+{
+    match document {
+        None => false,
+        Some(other) => other == place,
     }
 }
 

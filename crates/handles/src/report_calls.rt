@@ -3,7 +3,7 @@ ghost use Rattle.std.specs.Prelude.{◌≡◌, None, length, min};
 ghost use Rattle.handles.specs.Handles.{reported};
 ghost use Rattle.handles.specs.Room.{over};
 ghost use Rattle.handles.specs.Told.{mark_place_told, mark_told, owner_told, place_told, span_told, spot_told};
-ghost use Rattle.handles.specs.Told.{tag_told, text_told, told_of, widget_told, MakesReport};
+ghost use Rattle.handles.specs.Told.{tag_told, text_told, told_of, widget_told, MakesReport, MarkConcerns};
 
 use crate::ends::MakeEnd;
 use crate::report::Report;
@@ -216,5 +216,19 @@ impl ReportHandle {
         let place = report.mark_place(index, end);
         self.put(report);
         place
+    }
+
+    /// Whether a mark concerns the widget of a name, which the report concerns.
+    pub fn concerns_mark(&mut self, alloc: Global, index: usize, name: &[u8]) -> bool
+        ensures told { MarkConcerns (reported self.old) index name.now result }
+        ensures unchanged { reported self.new ≡ reported self.old }
+    {
+        if !self.full {
+            return false;
+        }
+        let report = self.take(alloc);
+        let told = report.concerns_mark(index, name);
+        self.put(report);
+        told
     }
 }

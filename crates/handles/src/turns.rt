@@ -1,10 +1,12 @@
 //! What each call from C makes of a session.
 ghost use Rattle.std.specs.Prelude.{◌≡◌, ◌≢◌, ◌<◌, true, false, if◌then◌else◌, [], Some, min, length, vec_len};
-ghost use Rattle.std.specs.Prelude.{encode_utf8_all};
+ghost use Rattle.std.specs.Prelude.{chars, encode_utf8_all};
 ghost use Rattle.tcl_words.specs.Unread.{texts_of};
 ghost use Rattle.printing.specs.Lines.{piece};
 ghost use Rattle.handles.specs.Calls.{Called, Fed, Gives, Tells, Turns, can_by, finished, given_of, status_after};
-ghost use Rattle.handles.specs.Told.{CalledTold, GivesTold, TurnsTold, untold, word_given};
+ghost use Rattle.peers.specs.Concerned.{homes_asked};
+ghost use Rattle.handles.specs.Told.{CalledTold, Concerns, GivesTold, TurnsTold, concerns, untold};
+ghost use Rattle.handles.specs.Told.{word_given};
 ghost use Rattle.handles.specs.Room.{over};
 ghost use Rattle.handles.specs.State.{said_text, start, state_of, telling_of};
 
@@ -13,7 +15,7 @@ use crate::report::Report;
 use crate::room::{copy_line, copy_whole};
 use crate::session::{Said, Session};
 use crate::words::{WordsFault, read_words};
-use peers::{Answer, Fault, World};
+use peers::{Answer, Fault, Windows, World};
 use printing::Line;
 use std::alloc::Global;
 use std::mem;
@@ -99,11 +101,25 @@ impl Session {
         requires { 0 < vec_len words }
         ensures { GivesTold marks (state_of self.old) (texts_of words.items) (state_of self.new) result }
     {
+        match self.world.homes_before(&words, marks) {
+            Err(_) => self.say(words, Err(Fault::Memory)),
+            Ok(homes) => self.call_with_homes(homes, marks, words),
+        }
+    }
+
+    /// The same, where it is known what the report needs of where widgets were.
+    fn call_with_homes(&mut self, homes: Windows, marks: bool, words: Vec<String>) -> Given
+        requires words { 0 < vec_len words }
+        requires homes { homes ≡ homes_asked marks (state_of self.old).world.documents (texts_of words.items) }
+        ensures { GivesTold marks (state_of self.old) (texts_of words.items) (state_of self.new) result }
+    {
         match self.world.call_told(&words, marks) {
             Ok(told) => {
                 self.report = Report {
                     edit: told.edit,
                     marks: told.marks,
+                    text: self.world.home_of_words(&words),
+                    homes,
                 };
                 self.say(words, Ok(told.answer))
             }
@@ -117,6 +133,26 @@ impl Session {
         ensures left { state_of self.new ≡ untold (state_of self.old) }
     {
         mem::replace(&mut self.report, Report::nothing(alloc))
+    }
+
+    /// Whether a report of the last command concerns the widget of a name.
+    fn concerns_named(&self, report: &Report, name: &str) -> bool
+        ensures { result ≡ concerns (state_of self.now).world (telling_of report.now) (chars name.now) }
+    {
+        match self.world.home(name) {
+            None => false,
+            Some(place) => report.is_of(place) || report.has_lost(name),
+        }
+    }
+
+    /// The same of a name in UTF-8; false if it is no such name. It allocates nothing.
+    pub(crate) fn concerns(&self, report: &Report, name: &[u8]) -> bool
+        ensures { Concerns (Some (state_of self.now)) (Some (telling_of report.now)) name.now result }
+    {
+        let Ok(name) = str::from_utf8(name) else {
+            return false;
+        };
+        self.concerns_named(report, name)
     }
 
     /// Says what the command of some words was given.

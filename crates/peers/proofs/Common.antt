@@ -7,7 +7,7 @@ pub use Rattle.std.proofs.Common.{inl, inr, insert, is_ok, is_some, length, map,
 pub use Rattle.std.proofs.Common.{refl, remove, replicate, reverse, rules, slice_get, slice_set, string_bytes, subst}
 pub use Rattle.std.proofs.Common.{suc, sym, take, tests, true, zero}
 pub use Rattle.command_effects.proofs.CountLaws.{among-append}
-pub use Rattle.command_effects.proofs.WrittenLaws.{filter-append}
+pub use Rattle.command_effects.proofs.WrittenLaws.{filter-append, take-found}
 pub use Rattle.command_effects.specs.Arguments.{first_of, first_two_of, none_or_one_of, one_or_two_of, two_of}
 pub use Rattle.command_effects.specs.Faults.{shape_fault, with_value}
 pub use Rattle.command_effects.specs.Listing.{is_filled}
@@ -57,7 +57,8 @@ pub use Rattle.documents.specs.Indices.{place_at}
 pub use Rattle.documents.specs.Kept.{is_window_name}
 pub use Rattle.documents.specs.Marks.{mark_offset, mark_unset, place_named, set_found}
 pub use Rattle.documents.specs.MarksTold.{AreCarried, AreOthers, AreWatched, HasMarksBut, TakesMarksBut, TellsMarks}
-pub use Rattle.documents.specs.MarksTold.{carried_all, mark_at, mark_carried, mark_key, mark_keys, own_keys, watched}
+pub use Rattle.documents.specs.MarksTold.{carried_all, mark_at, mark_carried, mark_key, mark_keys, marks_dropped}
+pub use Rattle.documents.specs.MarksTold.{own_keys, watched}
 pub use Rattle.documents.specs.Options.{AreLines, IsLine, settings_of, with_settings}
 pub use Rattle.documents.specs.Promise.{Change, Does, Gives, answered, change_with, refused, unless_idle}
 pub use Rattle.documents.specs.Tags.{add_spans, known_or, lowered, raised, remove_spans, reordered}
@@ -67,6 +68,7 @@ pub use Rattle.documents.specs.Views.{is_idle, shown, view_end}
 pub use Rattle.documents.specs.WellFormed.{IsPlaced, IsWellFormedDocument, window_names}
 pub use Rattle.documents.specs.Widgets.{ShowsOpenly, bare_document, is_kept, keeps_some, new_document, new_widget}
 pub use Rattle.documents.specs.Widgets.{thinned, widget_named, with_peer, without_widgets}
+pub use Rattle.documents.specs.declared.mark_lists.MarkChange.{MarkChange}
 pub use Rattle.documents.specs.declared.mark_lists.MarkKey.{MarkKey}
 pub use Rattle.peers.specs.Commands.{Call, arguments_of, call_of, command, done, is_frugal_reading, is_told, shaped}
 pub use Rattle.peers.specs.Commands.{switches_of}
@@ -77,7 +79,7 @@ pub use Rattle.peers.specs.Laws.{forgets, forgets_read, is_forgotten, is_spared,
 pub use Rattle.peers.specs.Laws.{place_after_all, redo_words, repeated, sets_keeping, text_at, undo_words}
 pub use Rattle.peers.specs.Marks.{gravity_asked, gravity_given, gravity_words, mark_gravity, mark_set, set_at}
 pub use Rattle.peers.specs.Marks.{set_words}
-pub use Rattle.peers.specs.MarksTold.{MarksTellAt, MarksTellOf}
+pub use Rattle.peers.specs.MarksTold.{MarksTellAt, MarksTellBy, MarksTellOf, TellsDropped}
 pub use Rattle.peers.specs.Options.{configure, settings_given}
 pub use Rattle.peers.specs.Queries.{count_between, counted_as, direction_by, direction_of, has_switch, is_direction}
 pub use Rattle.peers.specs.Queries.{searched, stands_for, stop_at, turned}
@@ -97,6 +99,7 @@ pub use Rattle.peers.specs.declared.told.Told.{Told}
 pub use Rattle.std.proofs.lemmas.Bool.{false≢true, and_parts, eqb-false, false_from_ne_true, lt-ltb, ltb-false}
 pub use Rattle.std.proofs.lemmas.Bool.{ltb-true, or_parts, or_right}
 pub use Rattle.std.proofs.lemmas.Bool.Decides.{Decides-eqb, nat_tests}
+pub use Rattle.std.proofs.lemmas.Grind.{flat_map-append}
 pub use Rattle.std.proofs.lemmas.List.{drop-map, drop_more, get_or-set_other, get_or-set_same, get_or_read}
 pub use Rattle.std.proofs.lemmas.List.{length-append, length-map, length-replicate, length-set, length-take}
 pub use Rattle.std.proofs.lemmas.List.{length-take-le, map-append, nil_from_length, reverse-append, set-get_or}

@@ -5,8 +5,7 @@ use Rattle.peers.proofs.Common.{is_some, Option, Some, None, if◌then◌else◌
 use Rattle.peers.proofs.Common.{append-nil, arith, ◌||◌, map-append, length-append, length-map, length-replicate}
 use Rattle.peers.proofs.Common.{take-append-le, take_all, take_more, insert_end, insert-append_left}
 use Rattle.peers.proofs.Common.{insert-append_right, is_among, is_same, Homes, homes_from, home_in, names_in, places_in}
-use Rattle.peers.proofs.Common.{insert, length-take-le, filter-append}
-use Rattle.std.proofs.lemmas.Grind.{flat_map-append}
+use Rattle.peers.proofs.Common.{insert, length-take-le, filter-append, flat_map-append}
 use lib.Seq.{take-append-add}
 
 -- the widgets of one document at a place

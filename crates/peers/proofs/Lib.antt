@@ -1,6 +1,8 @@
 pub mod ArgumentLaws
 pub mod Common
+pub mod CopyLaws
 pub mod DoneLaws
+pub mod DroppedLaws
 pub mod FollowLaws
 pub mod FrontLaws
 pub mod GotLaws

@@ -13,8 +13,7 @@ use Rattle.peers.proofs.Common.{place_named, place_at, gravity_asked, gravity_gi
 use Rattle.peers.proofs.Common.{widget_at, seat_step, reading, Shape, shaped, call_of, command, Makes, IsWellFormed}
 use Rattle.peers.proofs.Common.{IsWellFormedDocument, TellsAt, Told, carried-with, listed-all, marks-made, marks-peered}
 use Rattle.peers.proofs.Common.{marks-put, marks-stand, none-watched, one-watched, own-watched, IsPlaced, TellsCells}
-use Rattle.peers.proofs.Common.{is_same, literal, current_key, insert_key, still-taken}
-use Rattle.documents.specs.declared.mark_lists.MarkChange.{MarkChange}
+use Rattle.peers.proofs.Common.{is_same, literal, current_key, insert_key, still-taken, MarkChange}
 use Rattle.edit_ops.specs.declared.changes.TextChange.{TextChange}
 use Rattle.documents.proofs.AbsentMarksLaws.{absent-carried}
 use Rattle.documents.proofs.MarksToldLaws.{same-word}

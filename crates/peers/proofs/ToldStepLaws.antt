@@ -5,7 +5,7 @@ use Rattle.peers.proofs.Common.{bytes_eq-Decides, reading, Answer, if◌then◌e
 use Rattle.peers.proofs.Common.{on_widget, is_frugal_reading, are_frugal, is_same, literal, Document, Widget}
 use Rattle.peers.proofs.Common.{is_window_name, IsWellFormedDocument, PeerCreate, Makes, changed, peer_create, TellsAt}
 use Rattle.peers.proofs.Common.{TellsOf, MarksTellAt, MarksTellOf, no_edit, IsWellFormed, World, all_windows}
-use Rattle.peers.proofs.Common.{document_at, home, Told, TellsCells}
+use Rattle.peers.proofs.Common.{document_at, home, names_read, IfOk-weaker, Told, TellsCells, MarksTellBy, TellsDropped}
 use Rattle.std.specs.Str.{chars}
 use Rattle.peers.specs.Told.{answered}
 use Rattle.peers.proofs.FrontLaws.{set-at}
@@ -62,6 +62,10 @@ pub destroy-none : (name : List ℕ) → is_same name (literal "destroy") ≡ tr
 unfolding chars
 destroy-none name is = ap is_window_name ((bytes_eq-Decides name (literal "destroy")).0 is)
 
+pub text-other : (name : List ℕ) → is_same name (literal "text") ≡ true → is_same name (literal "destroy") ≡ false
+unfolding chars
+text-other name is = ap (λ n. is_same n (literal "destroy")) ((bytes_eq-Decides name (literal "text")).0 is)
+
 -- ---- by words as they are given
 
 -- the first word and the others
@@ -75,16 +79,44 @@ first-word {Z} (word ∷ words) first within is =
 pub unnamed : {Z : Type 0} (old new : World) (words : List (String Z)) (first : String Z) (made : Result Answer Fault)
     → IsWellFormed old → 0 < length words → first ≡ get_or words 0 first
     → is_window_name (chars (string_bytes first)) ≡ false
+    → is_same (chars (string_bytes first)) (literal "destroy") ≡ false
     → IfOk (answered made) (λ told. TellsOf old new (texts_of words) told.edit
     × MarksTellOf old new (texts_of words) told.edit.changes told.marks)
-unnamed old new words first (Err fault) formed within is none = tt
-unnamed old new words first (Ok answer) formed within is none =
+unnamed old new words first (Err fault) formed within is none other = tt
+unnamed old new words first (Ok answer) formed within is none other =
     let name = chars (string_bytes first) in let absent = homeless old name formed none in
     let spelled = first-word words first within is in
     subst (λ ws. TellsOf old new ws no_edit × MarksTellOf old new ws [] []) (sym spelled.1) (
       subst (λ at. TellsAt old new at (step old (name ∷ spelled.0)).edits no_edit) (sym absent) refl,
-      subst (λ at. MarksTellAt old new at [] []) (sym absent) refl,
+      subst (λ b. MarksTellBy b old new (name ∷ spelled.0) (home name old.documents) [] []) (sym other)
+          (subst (λ at. MarksTellAt old new at [] []) (sym absent) refl),
     )
+
+-- `destroy` tells no changes of a text and of tags, and the marks that it drops
+module _ {Z : Type 0} (old new : World) (words : List (String Z)) (first : String Z) (within : 0 < length words)
+    (is : first ≡ get_or words 0 first) (destroys : is_same (chars (string_bytes first)) (literal "destroy") ≡ true)
+  where
+    pub destroyed : IsWellFormed old → (result : Result Told Fault) → IfOk result (λ told. told.edit ≡ no_edit) →
+        IfOk result (λ told. TellsOf old new (texts_of words) told.edit)
+    destroyed formed result none =
+        let name = chars (string_bytes first) in let spelled = first-word words first within is in
+        let absent = homeless old name formed (destroy-none name destroys) in
+        IfOk-weaker result _ _ (λ told still. subst (λ ws. TellsOf old new ws told.edit) (sym spelled.1)
+        (subst (λ at. TellsAt old new at (step old (name ∷ spelled.0)).edits told.edit) (sym absent) still)) none
+
+    pub destroyed-marks : (result : Result Told Fault)
+        → IfOk result (λ told. TellsDropped (names_read (texts_of words) (reading (texts_of words))) old.documents
+        told.marks)
+        → IfOk result (λ told. MarksTellOf old new (texts_of words) told.edit.changes told.marks)
+    destroyed-marks result dropped =
+        let name = chars (string_bytes first) in let spelled = first-word words first within is in
+        let all = name ∷ spelled.0 in
+        IfOk-weaker result _ _ (λ told tells. subst (λ ws. MarksTellOf old new ws told.edit.changes told.marks)
+        (sym spelled.1)
+        (subst (λ b. MarksTellBy b old new all (home name old.documents) told.edit.changes told.marks) (sym destroys)
+        (subst (λ names. TellsDropped names old.documents told.marks)
+        (sym (ap (λ b. if b then names_read all (reading all) else []) destroys))
+        (subst (λ ws. TellsDropped (names_read ws (reading ws)) old.documents told.marks) spelled.1 tells)))) dropped
 
 -- a command of a widget tells what it tells of the document that the widget shows
 pub named : {Z : Type 0} (old new : World) (words : List (String Z)) (first : String Z) → 0 < length words
@@ -99,13 +131,15 @@ named old new words first within is result tells =
     spelled.1 tells)
 
 pub named-marks : {Z : Type 0} (old new : World) (words : List (String Z)) (first : String Z) → 0 < length words
-    → first ≡ get_or words 0 first → (result : Result Told Fault)
-    → let at = home (chars (string_bytes first)) old.documents in
+    → first ≡ get_or words 0 first → is_same (chars (string_bytes first)) (literal "destroy") ≡ false
+    → (result : Result Told Fault) → let at = home (chars (string_bytes first)) old.documents in
     IfOk result (λ told. MarksTellAt old new at told.edit.changes told.marks)
     → IfOk result (λ told. MarksTellOf old new (texts_of words) told.edit.changes told.marks)
-named-marks old new words first within is result tells =
-    subst (λ ws. IfOk result (λ told. MarksTellOf old new ws told.edit.changes told.marks))
-    (sym (first-word words first within is).1) tells
+named-marks old new words first within is other result tells =
+    let name = chars (string_bytes first) in let spelled = first-word words first within is in
+    subst (λ ws. IfOk result (λ told. MarksTellOf old new ws told.edit.changes told.marks)) (sym spelled.1)
+    (subst (λ b. IfOk result (λ told. MarksTellBy b old new (name ∷ spelled.0) (home name old.documents)
+    told.edit.changes told.marks)) (sym other) tells)
 
 -- what a command is, by its first word
 module _ {Z : Type 0} (world : World) (words : List (String Z)) (first : String Z) (within : 0 < length words)

@@ -1,4 +1,5 @@
 pub mod Commands
+pub mod Concerned
 pub mod Deletions
 pub mod History
 pub mod Indices

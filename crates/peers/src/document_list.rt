@@ -1,5 +1,5 @@
 ghost use Rattle.std.specs.Prelude.{◌≡◌, ◌+◌, ◌<◌, ◌≤◌, true, false, [], ◌∷◌, ◌++◌, chars, filter, length, map};
-ghost use Rattle.std.specs.Prelude.{slice_set, take, OnOk, OnErr};
+ghost use Rattle.std.specs.Prelude.{flat_map, slice_set, take, IfOk, OnOk, OnErr};
 ghost use Rattle.std.specs.List.{AllByRecursion, IsDistinct};
 ghost use Rattle.text_model.specs.LimitTable.{LimitTable, AreLimits};
 ghost use Rattle.text_model.specs.Lines.{lines};
@@ -9,6 +9,7 @@ ghost use Rattle.command_effects.specs.Settings.{is_behind};
 ghost use Rattle.command_effects.specs.Words.{is_among, is_same};
 ghost use Rattle.documents.specs.Documents.{characters};
 ghost use Rattle.documents.specs.Kept.{is_window_name};
+ghost use Rattle.documents.specs.MarksTold.{marks_dropped};
 ghost use Rattle.documents.specs.Options.{AreLines};
 ghost use Rattle.documents.specs.WellFormed.{IsWellFormedDocument};
 ghost use Rattle.documents.specs.Widgets.{keeps_some, new_document, with_peer, without_widgets};
@@ -18,7 +19,7 @@ ghost use Rattle.peers.specs.World.{document_at, windows_of};
 
 use crate::windows::Windows;
 use command_effects::Settings;
-use documents::{Document, drop_widgets};
+use documents::{Document, MarkList, drop_widgets};
 use std::alloc::{AllocError, Global};
 use text_model::TextStore;
 
@@ -154,6 +155,18 @@ impl<S: TextStore> Documents<S> {
                 Ok(())
             }
         }
+    }
+
+    /// Returns the marks of the widgets of these names, document by document, as they go with `drop_widgets`.
+    pub fn list_dropped(&self, names: &[String]) -> Result<MarkList, AllocError>
+        ensures { IfOk result (λ marks.
+            marks ≡ flat_map (marks_dropped (texts_of names.now)) self.now.list.items) }
+    {
+        let mut marks = MarkList::new(self.alloc);
+        for place in 0..self.list.len() {
+            self.list[place].list_dropped(&mut marks, names)?;
+        }
+        Ok(marks)
     }
 
     /// Takes the widgets of these names out, and with its last widget each document. Unknown names are skipped. Where

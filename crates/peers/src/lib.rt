@@ -25,4 +25,5 @@ pub use documents::{
     TextChange,
 };
 pub use told::Told;
+pub use windows::Windows;
 pub use world::World;

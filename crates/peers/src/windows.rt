@@ -1,5 +1,5 @@
 ghost use Rattle.std.specs.Prelude.{◌≡◌, ◌<◌, ◌≤◌, ◌++◌, ◌-◌, [], None, length, chars, filter, not, take, drop, remove};
-ghost use Rattle.std.specs.Prelude.{replicate, OnOk, OnErr};
+ghost use Rattle.std.specs.Prelude.{replicate, IfOk, OnOk, OnErr};
 ghost use Rattle.std.specs.List.{IsDistinct, insert};
 ghost use Rattle.tcl_words.specs.Unread.{texts_of};
 ghost use Rattle.command_effects.specs.Words.{is_among, is_same};
@@ -36,6 +36,20 @@ impl Windows {
         Windows {
             homes: IndexMap::new(alloc),
         }
+    }
+
+    /// A copy, in memory of its own.
+    pub fn copy(&self, alloc: Global) -> Result<Windows, AllocError>
+        ensures { IfOk result (λ copy. copy ≡ self.now) }
+    {
+        // Where the names are counted, they are known to differ.
+        let count = self.len();
+        let mut copy = Windows::new(alloc);
+        for index in 0..count {
+            let (name, home) = self.homes.get_index(index).unwrap();
+            copy.put(alloc, index, name.as_str(), *home)?;
+        }
+        Ok(copy)
     }
 
     /// How many widgets there are.

@@ -11,11 +11,13 @@ ghost use Rattle.peers.specs.History.{can_redo_by, can_undo_by};
 ghost use Rattle.peers.specs.Step.{Makes, changed, create_named, create, create_shaped, destroy, destroy_shaped};
 ghost use Rattle.peers.specs.Step.{on_home, on_widget, seat_step, step, are_frugal};
 ghost use Rattle.peers.specs.Commands.{is_frugal, is_frugal_reading};
+ghost use Rattle.peers.specs.Concerned.{homes_asked, text_of_words};
 ghost use Rattle.peers.specs.Widgets.{peer_create, peer_with};
 ghost use Rattle.peers.specs.WellFormed.{IsWellFormed};
 ghost use Rattle.peers.specs.World.{all_windows, document_at, home};
-ghost use Rattle.peers.specs.MarksTold.{MarksTellAt, MarksTellOf};
-ghost use Rattle.peers.specs.Told.{answer_of, TellsAt, TellsOf};
+ghost use Rattle.peers.specs.Laws.{names_read};
+ghost use Rattle.peers.specs.MarksTold.{MarksTellAt, MarksTellOf, TellsDropped};
+ghost use Rattle.peers.specs.Told.{answer_of, no_edit, TellsAt, TellsOf};
 ghost use Rattle.documents.specs.Options.{AreLines};
 
 use crate::commands::command;
@@ -24,11 +26,12 @@ use crate::marks::marks_before;
 use crate::options::settings_given;
 use crate::told::{Follows, Told, answered};
 use crate::widgets::peer_settings;
+use crate::windows::Windows;
 use crate::words::is_window_name;
 use command_effects::{Answer, Fault, Settings, first, is_word};
 use command_table::{Command, Shape, shape};
-use documents::{Caller, Document};
-use std::alloc::Global;
+use documents::{Caller, Document, EditTold, MarkList};
+use std::alloc::{AllocError, Global};
 use std::marker::Model;
 use text_model::{Limits, TextStore};
 
@@ -137,25 +140,52 @@ impl<S: TextStore> World<S> {
         }
     }
 
-    /// `destroy ?W ..?` (Tk's destroy(n)).
-    fn destroy(&mut self, names: &[String]) -> Result<Answer, Fault>
-        ensures { Makes self.old self.new result (destroy self.old (texts_of names.now)) }
+    /// Returns the marks of the widgets of these names, where they are asked for.
+    fn marks_dropped(&self, names: &[String], marks: bool) -> Result<MarkList, AllocError>
+        ensures told { marks ≡ true → IfOk result (λ marks.
+            TellsDropped (texts_of names.now) self.now.documents marks) }
+        ensures unasked { marks ≡ false → IfOk result (λ marks. marks ≡ []) }
     {
+        if marks {
+            self.documents.list_dropped(names)
+        } else {
+            Ok(MarkList::new(self.documents.alloc))
+        }
+    }
+
+    /// `destroy ?W ..?` (Tk's destroy(n)). It reports the marks of these widgets where they are asked for.
+    fn destroy(&mut self, names: &[String], marks: bool) -> Result<Told, Fault>
+        ensures makes { Makes self.old self.new (answer_of result) (destroy self.old (texts_of names.now)) }
+        ensures edit { IfOk result (λ told. told.edit ≡ no_edit) }
+        ensures told { marks ≡ true → IfOk result (λ told.
+            TellsDropped (texts_of names.now) self.old.documents told.marks) }
+        ensures unasked { marks ≡ false → IfOk result (λ told. told.marks ≡ []) }
+    {
+        let dropped = self.marks_dropped(names, marks)?;
         self.documents.drop_widgets(names)?;
-        Ok(Answer::Empty)
+        Ok(Told {
+            answer: Answer::Empty,
+            edit: EditTold::nothing(self.documents.alloc),
+            marks: dropped,
+        })
     }
 
     /// `destroy ?W ..?`, of all its words.
-    fn destroy_shaped(&mut self, words: &[String]) -> Result<Answer, Fault>
+    fn destroy_shaped(&mut self, words: &[String], marks: bool) -> Result<Told, Fault>
         requires { 0 < length words.now }
-        ensures { Makes self.old self.new result
+        ensures makes { Makes self.old self.new (answer_of result)
             (destroy_shaped self.old (texts_of words.now) (reading (texts_of words.now))) }
+        ensures edit { IfOk result (λ told. told.edit ≡ no_edit) }
+        ensures told { marks ≡ true → IfOk result (λ told.
+            TellsDropped (names_read (texts_of words.now) (reading (texts_of words.now))) self.old.documents
+            told.marks) }
+        ensures unasked { marks ≡ false → IfOk result (λ told. told.marks ≡ []) }
     {
         // Read first, so that every return knows that the world is well formed.
         let _documents = &self.documents;
         match shape(words) {
             Err(fault) => Err(Fault::of_shape(fault)),
-            Ok(shape) => self.destroy(&words[shape.arguments..]),
+            Ok(shape) => self.destroy(&words[shape.arguments..], marks),
         }
     }
 
@@ -365,6 +395,39 @@ impl<S: TextStore> World<S> {
         Some(self.document(name)?.can_redo())
     }
 
+    /// The place of the document that the widget of a name shows, in the order of creation; None where no widget has
+    /// the name. Two widgets of one place show the same text.
+    pub fn home(&self, name: &str) -> Option<usize>
+        ensures { result ≡ home (chars name.now) self.now.documents }
+    {
+        self.documents.windows.home(name)
+    }
+
+    /// The place of the document that a command's widget shows; None where its first word names no widget.
+    pub fn home_of_words(&self, words: &[String]) -> Option<usize>
+        ensures { result ≡ text_of_words self.now (texts_of words.now) }
+    {
+        match words {
+            [name, ..] => self.home(name.as_str()),
+            [] => None,
+        }
+    }
+
+    /// Where each widget is, if these are the words of `destroy` and it is asked for; else nothing. It is a copy, so
+    /// that the report of the command can say which widgets showed one text.
+    pub fn homes_before(&self, words: &[String], asked: bool) -> Result<Windows, AllocError>
+        ensures { IfOk result (λ homes. homes ≡ homes_asked asked self.now.documents (texts_of words.now)) }
+    {
+        let alloc = self.documents.alloc;
+        if !asked {
+            return Ok(Windows::new(alloc));
+        }
+        match words {
+            [name, ..] if is_word(name.as_str(), "destroy") => self.documents.windows.copy(alloc),
+            _ => Ok(Windows::new(alloc)),
+        }
+    }
+
     /// Carries out a command of one word or more. It reports what it changed of what the caller follows.
     fn carry_out(&mut self, words: &[String], follows: Follows) -> Result<Told, Fault>
         requires { 0 < length words.now }
@@ -382,7 +445,7 @@ impl<S: TextStore> World<S> {
         if is_word(name, "text") {
             answered(alloc, self.create_shaped(words))
         } else if is_word(name, "destroy") {
-            answered(alloc, self.destroy_shaped(words))
+            self.destroy_shaped(words, follows.marks)
         } else {
             self.on_widget(name, words, follows)
         }
@@ -390,8 +453,9 @@ impl<S: TextStore> World<S> {
 
     /// Carries out a command as `call` does, and reports what it changed of the text that its widget shows and of the
     /// tags there, if its first word names one. Where marks are asked for, it also reports each mark that these changes
-    /// alone don't take to where it is, that is new or gone, or has another gravity. The report is allocated before
-    /// anything changes, so where an allocation fails the world is as it was.
+    /// alone don't take to where it is, that is new or gone, or has another gravity, and `destroy` those of the widgets
+    /// that it drops. The report is allocated before anything changes, so where an allocation fails the world is as it
+    /// was.
     pub fn call_told(&mut self, words: &[String], marks: bool) -> Result<Told, Fault>
         requires { 0 < length words.now }
         ensures makes { Makes self.old self.new (answer_of result)

@@ -11,7 +11,7 @@ ghost use Rattle.handles.specs.Handles.{reported, state, status_of, said_of};
 ghost use Rattle.handles.specs.Room.{over};
 ghost use Rattle.handles.specs.Told.{told_of, mark_told, place_told, spot_told, text_told, word_given, words_of};
 ghost use Rattle.handles.specs.Told.{span_told, tag_told, widget_told, CallsTold, MakesReport, MovesReport};
-ghost use Rattle.handles.specs.Told.{mark_place_told, owner_told, TakesTold};
+ghost use Rattle.handles.specs.Told.{mark_place_told, owner_told, Concerns, MarkConcerns, TakesTold};
 
 use handles::ends::{
     CallEnd, FeedEnd, MakeEnd, MoveEnd, TurnEnd, Way, code_of_flag, code_of_gravity, code_of_told,
@@ -138,6 +138,23 @@ pub extern "C" fn tktext_report_drop(alloc: Global, report: &mut ReportHandle)
     ensures { reported report.new ≡ None }
 {
     report.clear(alloc);
+}
+
+/// Returns 1 if a report that was just taken out of a world concerns the widget of a name: if the widget shows the text
+/// of the command's widget, or a text that lost a widget by `destroy`; else 0.
+#[unsafe(no_mangle)]
+pub extern "C" fn tktext_told_to(
+    alloc: Global,
+    handle: &mut Handle,
+    report: &mut ReportHandle,
+    widget: &[u8],
+) -> i32
+    ensures told { (told : Bool) × (result ≡ flag_code told)
+        × Concerns (state handle.old) (reported report.old) widget.now told }
+    ensures unchanged { state handle.new ≡ state handle.old }
+    ensures kept { reported report.new ≡ reported report.old }
+{
+    code_of_flag(handle.concerns(alloc, report, widget))
 }
 
 /// Returns the number of a report's changes of the text.
@@ -384,6 +401,22 @@ pub extern "C" fn tktext_told_mark_gravity(
     ensures unchanged { reported report.new ≡ reported report.old }
 {
     code_of_gravity(report.mark_place(alloc, index, end))
+}
+
+/// Returns 1 if a mark concerns the widget of a name, which the report concerns: of `destroy` a mark of its text, and
+/// else any; 0 if there is no such mark.
+#[unsafe(no_mangle)]
+pub extern "C" fn tktext_told_mark_to(
+    alloc: Global,
+    report: &mut ReportHandle,
+    index: usize,
+    widget: &[u8],
+) -> i32
+    ensures told { (told : Bool) × (result ≡ flag_code told)
+        × MarkConcerns (reported report.old) index widget.now told }
+    ensures unchanged { reported report.new ≡ reported report.old }
+{
+    code_of_flag(report.concerns_mark(alloc, index, widget))
 }
 
 /// Whether `edit undo` would find something to undo in the text that the widget of a name shows: 1 or 0, and -1 where

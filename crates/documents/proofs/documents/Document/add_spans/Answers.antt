@@ -1,7 +1,8 @@
 use Rattle.documents.proofs.Common.{ℕ, ◌+◌, ◌<◌, ◌≤◌, true, length, refl, sym, subst, ap, ◌∙◌, arith, nat_tests}
 use Rattle.documents.proofs.Common.{with_name, Ok, Empty, TooManyTags, All, known_tags, sel, slot_of, log_of, SpanFits}
 use Rattle.documents.proofs.Common.{tagged, widget_at, parts_of, Stands, add_spans, chars, take, Foretells, TellsTags}
-use Rattle.documents.proofs.Common.{with_tag, key_of, names_of}
+use Rattle.documents.proofs.Common.{with_tag, key_of}
+use Rattle.tag_table.specs.Tags.{names_of}
 use Rattle.documents.proofs.ChangeLaws.{Leaves, does-left, leaves-left}
 use Rattle.documents.proofs.InsertionLaws.{stands-back}
 use Rattle.documents.proofs.PartsLaws.{cells-kept, sits, stand}

@@ -4,8 +4,8 @@ use Rattle.peers.proofs.Common.{on_widget, TellsOf, MarksTellOf, TellsAt, MarksT
 use Rattle.peers.proofs.Common.{IfOk-weaker, is_frugal_reading, are_frugal, Outcome}
 use Rattle.peers.specs.Told.{answered}
 use Rattle.peers.proofs.ToldLaws.{answer-answered, answered-unmarked}
-use Rattle.peers.proofs.ToldStepLaws.{destroy-none, destroy-step as destroys, named, named-marks, text-none, text-step}
-use Rattle.peers.proofs.ToldStepLaws.{unnamed, widget-step}
+use Rattle.peers.proofs.ToldStepLaws.{destroy-step as destroys, destroyed, destroyed-marks, named, named-marks}
+use Rattle.peers.proofs.ToldStepLaws.{text-none, text-other, text-step, unnamed, widget-step}
 use Rattle.peers.proofs.world.World.carry_out.Goals.{After-create_shaped, After-destroy_shaped, After-on_widget}
 use Rattle.peers.proofs.world.World.carry_out.Goals as goal
 
@@ -41,6 +41,7 @@ create-tells g c =
     unnamed c.args.self.now c.create_shaped.new.self c.args.words.now c.name-item.result c.create_shaped.result
     (subst IsWellFormed c.self.view_is c.self.invariant.0) c.in-len1-up.len_at_least c.name-item.is
     (text-none (chars (string_bytes c.name-item.result)) (create-word g c))
+    (text-other (chars (string_bytes c.name-item.result)) (create-word g c))
 
 pub returns-then-is_word-clause-tells : goal.returns-then-is_word-clause-tells
 returns-then-is_word-clause-tells g c = λ _.
@@ -87,40 +88,25 @@ destroy-step g c =
 
 pub returns-then-is_word-2-clause-makes : goal.returns-then-is_word-2-clause-makes
 returns-then-is_word-2-clause-makes g c =
-    let world = c.args.self.now in let words = texts_of c.args.words.now in
-    subst (λ reply. Makes world c.destroy_shaped.new.self reply (step world words))
-    (sym (ap answer_of c.answered-then-is_word-2.ensures ∙ answer-answered c.destroy_shaped.result))
-    (subst (Makes world c.destroy_shaped.new.self c.destroy_shaped.result)
-    (sym (destroy-step g (goal.at.returns-then-is_word-2-clause-makes g c).After-destroy_shaped).0) c.destroy_shaped.ensures)
-
--- what it tells
-destroy-tells : (g : _) (c : After-destroy_shaped g) → IfOk (answered c.destroy_shaped.result) (λ told.
-    TellsOf c.args.self.now c.destroy_shaped.new.self (texts_of c.args.words.now) told.edit
-    × MarksTellOf c.args.self.now c.destroy_shaped.new.self (texts_of c.args.words.now) told.edit.changes
-    told.marks)
-destroy-tells g c =
-    unnamed c.args.self.now c.destroy_shaped.new.self c.args.words.now c.name-item.result c.destroy_shaped.result
-    (subst IsWellFormed c.self.view_is c.self.invariant.0) c.in-len1-up.len_at_least c.name-item.is
-    (destroy-none (chars (string_bytes c.name-item.result)) (destroy-word g c).1)
+    subst (Makes c.args.self.now c.destroy_shaped.new.self (answer_of c.destroy_shaped.result))
+    (sym (destroy-step g (goal.at.returns-then-is_word-2-clause-makes g c).After-destroy_shaped).0)
+    c.destroy_shaped.ensures.makes
 
 pub returns-then-is_word-2-clause-tells : goal.returns-then-is_word-2-clause-tells
 returns-then-is_word-2-clause-tells g c = λ _.
-    subst (λ told. IfOk told (λ told. TellsOf c.args.self.now c.destroy_shaped.new.self (texts_of c.args.words.now) told.edit))
-    (sym c.answered-then-is_word-2.ensures) (IfOk-weaker (answered c.destroy_shaped.result) _ _ (λ told tells. tells.0)
-    (destroy-tells g (goal.at.returns-then-is_word-2-clause-tells g c).After-destroy_shaped))
+    destroyed c.args.self.now c.destroy_shaped.new.self c.args.words.now c.name-item.result c.in-len1-up.len_at_least
+    c.name-item.is (destroy-word g (goal.at.returns-then-is_word-2-clause-tells g c).After-destroy_shaped).1
+    (subst IsWellFormed c.self.view_is c.self.invariant.0) c.destroy_shaped.result c.destroy_shaped.ensures.edit
 
 pub returns-then-is_word-2-clause-marks : goal.returns-then-is_word-2-clause-marks
-returns-then-is_word-2-clause-marks g c = λ _.
-    subst (λ told. IfOk told (λ told.
-    MarksTellOf c.args.self.now c.destroy_shaped.new.self (texts_of c.args.words.now) told.edit.changes
-    told.marks)) (sym c.answered-then-is_word-2.ensures)
-    (IfOk-weaker (answered c.destroy_shaped.result) _ _ (λ told tells. tells.1)
-    (destroy-tells g (goal.at.returns-then-is_word-2-clause-marks g c).After-destroy_shaped))
+returns-then-is_word-2-clause-marks g c = λ follows.
+    destroyed-marks c.args.self.now c.destroy_shaped.new.self c.args.words.now c.name-item.result
+    c.in-len1-up.len_at_least c.name-item.is
+    (destroy-word g (goal.at.returns-then-is_word-2-clause-marks g c).After-destroy_shaped).1
+    c.destroy_shaped.result (c.destroy_shaped.ensures.told follows)
 
 pub returns-then-is_word-2-clause-unasked : goal.returns-then-is_word-2-clause-unasked
-returns-then-is_word-2-clause-unasked g c = λ _.
-    subst (λ told. IfOk told (λ told. told.marks ≡ [])) (sym c.answered-then-is_word-2.ensures)
-    (answered-unmarked c.destroy_shaped.result)
+returns-then-is_word-2-clause-unasked g c = c.destroy_shaped.ensures.unasked
 
 pub returns-then-is_word-2-clause-frugal : goal.returns-then-is_word-2-clause-frugal
 returns-then-is_word-2-clause-frugal g c = λ frugal.
@@ -162,6 +148,8 @@ pub returns-else-is_word-2-clause-marks : goal.returns-else-is_word-2-clause-mar
 returns-else-is_word-2-clause-marks g c = λ follows.
     let world = c.args.self.now in let new = c.on_widget.new.self in
     named-marks world new c.args.words.now c.name-item.result c.in-len1-up.len_at_least c.name-item.is
+    (subst (λ bytes. is_same (chars bytes) (literal "destroy") ≡ false) c.as_str-name.ensures.value
+    (sym c.is_word-else-is_word.ensures ∙ c.if-is_word-2.false))
     c.on_widget.result (subst (λ bytes. IfOk c.on_widget.result (λ told.
     MarksTellAt world new (home (chars bytes) world.documents) told.edit.changes told.marks))
     c.as_str-name.ensures.value (c.on_widget.ensures.marks follows))

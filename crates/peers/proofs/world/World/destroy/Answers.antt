@@ -11,8 +11,8 @@ invariant_of-self-2 g c = (
   c.drop_widgets.ensures.found,
 )
 
-pub returns : goal.returns
-returns g c = record {
+pub returns-clause-makes : goal.returns-clause-makes
+returns-clause-makes g c = record {
   reply = λ _. refl;
   world = λ _. rw (← c.self.view_is) (ap (with_all c.self.inside.limits) c.in_ok-drop_widgets.ensures.ok);
   refused = tt;
