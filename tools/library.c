@@ -644,7 +644,7 @@ static double edit_lines(long count, int by_words)
     return taken;
 }
 
-/* Fills a text with so many lines, deletes it, and undoes that, with or without a report. */
+/* Fills a text with `count` lines, deletes it, and undoes that, with or without a report. */
 static void undo_all(long count, bool is_told)
 {
     tktext world = TKTEXT_EMPTY;

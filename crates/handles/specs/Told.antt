@@ -201,16 +201,16 @@ mark_place_told marks index end = mark_place_in (slice_get marks index) end
 abbrev pub were_one : Homes → List ℕ → List ℕ → Bool
 were_one homes one other = is_one (home_in one homes) (home_in other homes)
 
--- whether one of the marks is of a widget that showed one document with the widget of a name
-abbrev pub has_lost : Homes → List ℕ → List MarkChange → Bool
-has_lost homes name [] = false
-has_lost homes name (mark ∷ marks) = were_one homes mark.key.name name || has_lost homes name marks
+-- whether one of the marks is of a widget that showed a widget's document, if that widget showed one
+abbrev pub has_lost : Homes → Option ℕ → List MarkChange → Bool
+has_lost homes home [] = false
+has_lost homes home (mark ∷ marks) = is_one (home_in mark.key.name homes) home || has_lost homes home marks
 
 -- whether a report concerns the widget of a name: it shows the text of the command's widget, or a text that lost a
 -- widget by `destroy`
 abbrev pub concerns_at : Telling → List ℕ → Option ℕ → Bool
 concerns_at told name None = false
-concerns_at told name (Some place) = is_at told.text place || has_lost told.homes name told.marks
+concerns_at told name (Some place) = is_at told.text place || has_lost told.homes (home_in name told.homes) told.marks
 
 abbrev pub concerns : World → Telling → List ℕ → Bool
 concerns world told name = concerns_at told name (home name world.documents)
@@ -221,7 +221,7 @@ abbrev pub mark_concerns : Homes → List ℕ → Option MarkChange → Bool
 mark_concerns homes name None = false
 mark_concerns homes name (Some mark) = (length homes == 0) || were_one homes mark.key.name name
 
--- the same of a report and of a session that are behind handles
+-- the same of a report and of a session that C keeps
 abbrev pub concerned : Option State → Option Telling → List ℕ → Bool
 concerned (Some state) (Some told) name = concerns state.world told name
 concerned state told name = false

@@ -1,4 +1,4 @@
--- Words that stand one behind the other in bytes.
+-- Words whose bytes follow one another.
 use Rattle.std.specs.Prelude.{◌≡◌, ℕ, ◌+◌, ◌<◌, List, [], ◌∷◌, length, map, take, drop, chars, IsUtf8, ⊤}
 
 -- the bytes, cut into pieces of these lengths

@@ -1,6 +1,7 @@
 //! What a command that reports changed, as a value of its own, and what C reads of it.
 ghost use Rattle.std.specs.Prelude.{◌≡◌, Some, chars, length, min};
-ghost use Rattle.peers.specs.Concerned.{is_at};
+ghost use Rattle.peers.specs.Concerned.{is_at, is_one};
+ghost use Rattle.peers.specs.Windows.{home_in};
 ghost use Rattle.handles.specs.Room.{over};
 ghost use Rattle.handles.specs.State.{nothing_told, telling_of};
 ghost use Rattle.handles.specs.Told.{mark_name, mark_place_told, mark_told, mark_widget, owner_told, place_by};
@@ -164,10 +165,7 @@ impl Report {
     fn were_one(&self, one: &str, other: &str) -> bool
         ensures { result ≡ were_one (telling_of self.now).homes (chars one.now) (chars other.now) }
     {
-        match self.homes.home(other) {
-            None => false,
-            Some(place) => is_at(self.homes.home(one), place),
-        }
+        is_one(self.homes.home(one), self.homes.home(other))
     }
 
     /// Whether the report is of the text of the document at a place.
@@ -178,12 +176,14 @@ impl Report {
     }
 
     /// Whether one of the marks is of a widget that showed one text with the widget of a name, before `destroy` dropped
-    /// it. Each mark costs two look-ups of a name.
+    /// it. Each mark costs a look-up of a name.
     pub(crate) fn has_lost(&self, name: &str) -> bool
-        ensures { result ≡ has_lost (telling_of self.now).homes (chars name.now) (telling_of self.now).marks }
+        ensures { let told = telling_of self.now in
+            result ≡ has_lost told.homes (home_in (chars name.now) told.homes) told.marks }
     {
+        let home = self.homes.home(name);
         for mark in self.marks.as_slice() {
-            if self.were_one(mark.key.name.as_str(), name) {
+            if is_one(self.homes.home(mark.key.name.as_str()), home) {
                 return true;
             }
         }
@@ -226,6 +226,16 @@ fn is_at(document: Option<usize>, place: usize) -> bool
     match document {
         None => false,
         Some(other) => other == place,
+    }
+}
+
+/// Whether two widgets show one document, by the places of the documents that they show.
+fn is_one(other: Option<usize>, home: Option<usize>) -> bool
+    ensures { result ≡ is_one other home }
+{
+    match home {
+        None => false,
+        Some(place) => is_at(other, place),
     }
 }
 

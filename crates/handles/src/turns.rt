@@ -44,8 +44,8 @@ impl Session {
         }
     }
 
-    /// Carries out the command of some words, which stand one behind the other in the bytes, and keeps its report
-    /// where that is wanted, with its marks where these are too.
+    /// Carries out the command of some words, whose bytes follow one another, and keeps its report if that is wanted,
+    /// with its marks if these are too.
     pub(crate) fn call_bytes(
         &mut self,
         alloc: Global,
@@ -217,8 +217,8 @@ impl Session {
         self.is_finished = true;
     }
 
-    /// Takes the next command of the script that is at hand, and carries it out, and keeps its report where that is
-    /// wanted, with its marks where these are too.
+    /// Carries out the next command of the script, if all of it was fed, and keeps its report if that is wanted, with
+    /// its marks if these are too.
     pub(crate) fn take_turn(&mut self, alloc: Global, tells: bool, marks: bool) -> TurnEnd
         ensures plain { tells ≡ false → Turns (state_of self.old) (state_of self.new) result }
         ensures told { tells ≡ true → TurnsTold marks (state_of self.old) (state_of self.new) result }

@@ -17,8 +17,8 @@ pub(crate) enum WordsFault {
     Memory,
 }
 
-/// As many words as there are lengths, which stand one behind the other in the bytes. They are made in the room of
-/// other words, whatever these are.
+/// Returns as many words as there are lengths. Their bytes follow one another. They are made in the room of other
+/// words, whatever these are.
 pub(crate) fn read_words(
     alloc: Global,
     spare: Vec<String>,

@@ -54,7 +54,7 @@ pub extern "C" fn tktext_new_greatest(alloc: Global, handle: &mut Handle) -> i32
     )
 }
 
-/// Carries out a command, whose words stand one behind the other in the bytes.
+/// Carries out a command. The bytes of its words follow one another.
 #[unsafe(no_mangle)]
 pub extern "C" fn tktext_call(
     alloc: Global,
@@ -140,7 +140,7 @@ pub extern "C" fn tktext_report_drop(alloc: Global, report: &mut ReportHandle)
     report.clear(alloc);
 }
 
-/// Returns 1 if a report that was just taken out of a world concerns the widget of a name: if the widget shows the text
+/// Returns 1 if a report that was just moved out of a world concerns the widget of a name: if the widget shows the text
 /// of the command's widget, or a text that lost a widget by `destroy`; else 0.
 #[unsafe(no_mangle)]
 pub extern "C" fn tktext_told_to(
@@ -457,7 +457,7 @@ pub extern "C" fn tktext_finish(alloc: Global, handle: &mut Handle)
     handle.finish(alloc);
 }
 
-/// Carries out the next command of the script that is at hand.
+/// Carries out the next command of the script, if all of it was fed.
 #[unsafe(no_mangle)]
 pub extern "C" fn tktext_next(alloc: Global, handle: &mut Handle) -> i32
     ensures { (ended : TurnEnd) × (result ≡ turn_code ended) × Takes (state handle.old) (state handle.new) ended }
