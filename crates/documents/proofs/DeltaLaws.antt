@@ -119,16 +119,18 @@ planned-made effects {outcome} {anchors} {before} {log} {past} {new} {made} is s
     is ∙ ap₂ (planned effects outcome) same kept ∙ leads
 
 -- what is reported of it, to a caller who follows
-pub told-planned : {Z : Type 0} (pairs : List (ℕ × Key)) (delta : Option (Box Delta Z)) {follows : Bool} {done actions : List Action}
-    {old middle new outcome : List Cell} {cells : List KeyedCell} {told : EditTold}
-    → ((actions : List Action) → KnowsDelta true actions middle new delta
-    → TellsCells actions (keyed pairs middle) (keyed pairs new) told)
-    → middle ≡ old → new ≡ outcome → follows ≡ true → done ≡ actions → KnowsDelta follows done old outcome delta
-    → keyed pairs old ≡ cells → TellsCells actions cells (keyed pairs new) told
-told-planned {Z} pairs delta {follows} {done} {actions} {old} {middle} {new} {outcome} {cells} {told} tells same made asked
-    are knows kept =
+pub told-planned : {Z : Type 0} (pairs : List (ℕ × Key)) {taken delta : Option (Box Delta Z)} {follows : Bool}
+    {done actions : List Action} {old middle new outcome : List Cell} {cells : List KeyedCell} {told : EditTold}
+    → ((actions : List Action) (cells : List Cell) → KnowsDelta true actions middle cells taken
+    → TellsCells actions (keyed pairs middle) (keyed pairs cells) told)
+    → taken ≡ delta → middle ≡ old → new ≡ outcome → follows ≡ true → done ≡ actions
+    → KnowsDelta follows done old outcome delta → keyed pairs old ≡ cells
+    → TellsCells actions cells (keyed pairs new) told
+told-planned {Z} pairs {taken} {delta} {follows} {done} {actions} {old} {middle} {new} {outcome} {cells} {told} tells is
+    same made asked are knows kept =
     subst (λ cs. TellsCells actions cs (keyed pairs new) told) (ap (keyed pairs) same ∙ kept)
-    (tells actions (subst (λ cs. KnowsDelta true actions cs new delta) (sym same)
-    (subst (λ cs. KnowsDelta true actions old cs delta) (sym made)
-    (subst (λ done. KnowsDelta true done old outcome delta) are
-    (subst (λ follows. KnowsDelta follows done old outcome delta) asked knows)))))
+    (tells actions new (subst (λ cs. KnowsDelta true actions cs new taken) (sym same)
+    (subst (λ cs. KnowsDelta true actions old cs taken) (sym made)
+    (subst (λ done. KnowsDelta true done old outcome taken) are
+    (subst (λ follows. KnowsDelta follows done old outcome taken) asked
+    (subst (KnowsDelta follows done old outcome) (sym is) knows))))))

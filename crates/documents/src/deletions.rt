@@ -10,10 +10,10 @@ ghost use Rattle.documents.specs.Views.{is_idle, shown};
 
 use crate::callers::Caller;
 use crate::documents::Document;
-use crate::told::{EditTold, carry_out};
+use crate::told::{EditTold, report};
 use crate::views::{end_of, start_of};
 use command_effects::{Fault, Pair, plan_replacement, spans_of};
-use edit_ops::{EditRules, Target, plan_delete};
+use edit_ops::{EditRules, Target, commit, plan_delete};
 use text_model::{MarkNo, TagSlot, TextStore};
 
 impl<S: TextStore> Document<S> {
@@ -42,8 +42,11 @@ impl<S: TextStore> Document<S> {
             recording: self.settings.recording(),
             follows: caller.follows,
         };
-        let plan = plan_delete(&rules, &mut self.text, start, end, &spans)?;
-        Ok(carry_out(self.alloc, &self.seats, &self.tags, &mut self.text, plan)?)
+        let mut plan = plan_delete(&rules, &mut self.text, start, end, &spans)?;
+        let delta = plan.delta.take();
+        let told = report(self.alloc, &self.seats, &self.tags, &self.text.store, delta)?;
+        commit(plan, &mut self.text);
+        Ok(told)
     }
 
     /// Replaces the characters between two places by texts, and makes the tags of their lists. The end of the
@@ -91,15 +94,19 @@ impl<S: TextStore> Document<S> {
             target,
             pairs,
         );
-        let plan = match planned {
+        let mut plan = match planned {
             Ok(plan) => plan,
             Err(fault) => {
                 self.tags.truncate(front);
                 return Err(fault);
             }
         };
-        match carry_out(self.alloc, &self.seats, &self.tags, &mut self.text, plan) {
-            Ok(told) => Ok(told),
+        let delta = plan.delta.take();
+        match report(self.alloc, &self.seats, &self.tags, &self.text.store, delta) {
+            Ok(told) => {
+                commit(plan, &mut self.text);
+                Ok(told)
+            }
             Err(_) => {
                 self.tags.truncate(front);
                 Err(Fault::Memory)

@@ -10,9 +10,9 @@ ghost use Rattle.undo_stack.specs.Modified.{is_modified};
 
 use crate::callers::Caller;
 use crate::documents::Document;
-use crate::told::{EditTold, carry_out};
+use crate::told::{EditTold, report};
 use command_effects::{Answer, Fault};
-use edit_ops::{EditRules, plan_redo, plan_undo};
+use edit_ops::{EditRules, commit, plan_redo, plan_undo};
 use text_model::{MarkNo, TextStore};
 
 impl<S: TextStore> Document<S> {
@@ -92,8 +92,10 @@ impl<S: TextStore> Document<S> {
             follows: caller.follows,
         };
         let insert = MarkNo(2 * self.seats.number(caller.seat));
-        let plan = plan_undo(&rules, &mut self.text, insert)?;
-        let told = carry_out(self.alloc, &self.seats, &self.tags, &mut self.text, plan)?;
+        let mut plan = plan_undo(&rules, &mut self.text, insert)?;
+        let delta = plan.delta.take();
+        let told = report(self.alloc, &self.seats, &self.tags, &self.text.store, delta)?;
+        commit(plan, &mut self.text);
         Ok(told)
     }
 
@@ -122,8 +124,10 @@ impl<S: TextStore> Document<S> {
             follows: caller.follows,
         };
         let insert = MarkNo(2 * self.seats.number(caller.seat));
-        let plan = plan_redo(&rules, &mut self.text, insert)?;
-        let told = carry_out(self.alloc, &self.seats, &self.tags, &mut self.text, plan)?;
+        let mut plan = plan_redo(&rules, &mut self.text, insert)?;
+        let delta = plan.delta.take();
+        let told = report(self.alloc, &self.seats, &self.tags, &self.text.store, delta)?;
+        commit(plan, &mut self.text);
         Ok(told)
     }
 }

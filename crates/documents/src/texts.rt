@@ -7,9 +7,9 @@ ghost use Rattle.documents.specs.Views.{is_idle, shown};
 
 use crate::callers::Caller;
 use crate::documents::Document;
-use crate::told::{EditTold, carry_out};
+use crate::told::{EditTold, report};
 use command_effects::{Fault, Pair, plan_pairs};
-use edit_ops::EditRules;
+use edit_ops::{EditRules, commit};
 use std::alloc::AllocError;
 use text_model::{TagSlot, Text, TextStore};
 
@@ -74,15 +74,19 @@ impl<S: TextStore> Document<S> {
             follows: caller.follows,
         };
         let planned = plan_pairs(&rules, &mut self.tags, slot, &mut self.text, at, pairs);
-        let plan = match planned {
+        let mut plan = match planned {
             Ok(plan) => plan,
             Err(fault) => {
                 self.tags.truncate(front);
                 return Err(fault);
             }
         };
-        match carry_out(self.alloc, &self.seats, &self.tags, &mut self.text, plan) {
-            Ok(told) => Ok(told),
+        let delta = plan.delta.take();
+        match report(self.alloc, &self.seats, &self.tags, &self.text.store, delta) {
+            Ok(told) => {
+                commit(plan, &mut self.text);
+                Ok(told)
+            }
             Err(_) => {
                 self.tags.truncate(front);
                 Err(Fault::Memory)

@@ -1,13 +1,11 @@
 //! Reports of commands that edit the text.
 
-ghost use Rattle.std.specs.Prelude.{◌≡◌, ◌≤◌, ◌<◌, ◌^◌, true, length, [], List, IfOk, IfSome, OnErr, OnOk};
+ghost use Rattle.std.specs.Prelude.{◌≡◌, ◌≤◌, ◌<◌, ◌^◌, true, length, [], List, IfOk, IfSome};
 ghost use Rattle.std.specs.Prelude.{box_value};
 ghost use Rattle.tag_table.specs.Tags.{AreTags};
 ghost use Rattle.text_model.specs.declared.cells.Cell.{Cell};
 ghost use Rattle.text_model.specs.declared.limits.TheConstants.Limits.{MOST_WIDGETS};
 ghost use Rattle.edit_ops.specs.Deltas.{KnowsDelta};
-ghost use Rattle.edit_ops.specs.Plans.{planned, HasRoomFor};
-ghost use Rattle.edit_ops.specs.States.{log_of, state_in, IsUnchanged};
 ghost use Rattle.documents.specs.Kept.{AreSeats};
 ghost use Rattle.documents.specs.Keys.{key_pairs, keyed};
 ghost use Rattle.undo_stack.specs.declared.actions.Action.{Action};
@@ -16,7 +14,7 @@ ghost use Rattle.documents.specs.Told.{TellsCells};
 
 use crate::tag_lists::TagList;
 use crate::tags_told::push_runs;
-use edit_ops::{ChangeList, Delta, EditedText, Plan, commit, tell};
+use edit_ops::{ChangeList, Delta, tell};
 use name_list::NameList;
 use std::alloc::{AllocError, Global};
 use tag_table::TagTable;
@@ -49,8 +47,9 @@ impl EditTold {
 }
 
 /// Returns the report of a delta of a store's text, by the keys that the seats and the tags give its slots; an empty
-/// one if there is none.
-fn report<S: TextStore>(
+/// one if there is none. It is made before the plan of the delta is carried out: where an allocation fails, all is as
+/// it was.
+pub fn report<S: TextStore>(
     alloc: Global,
     seats: &NameList,
     tags: &TagTable,
@@ -87,35 +86,4 @@ fn report<S: TextStore>(
         changes,
         tags: list,
     })
-}
-
-/// Carries out a plan, and returns the report of what it changes, by the keys that the seats and the tags give its
-/// slots. The report is complete before anything changes: where an allocation fails, all is as it was.
-pub fn carry_out<S: TextStore>(
-    alloc: Global,
-    seats: &NameList,
-    tags: &TagTable,
-    text: &mut EditedText<S>,
-    mut plan: Plan<S>,
-) -> Result<EditTold, AllocError>
-    requires limit { seats.now.limit ≡ MOST_WIDGETS }
-    requires seated { AreSeats seats.now.entries }
-    requires sound { AreTags tags.now }
-    requires short { length (S.content text.old.store).cells ≤ 2 ^ 60 }
-    requires stand { IfSome plan.delta
-        (λ delta. AreHunks 0 (length (S.content text.old.store).cells) (box_value delta).hunks.items) }
-    requires ready { S.ready text.old.store plan.prepared }
-    requires room { HasRoomFor plan.effects text.old.history }
-    ensures ok { OnOk result (state_in S.content text.new ≡ planned plan.effects
-        (S.outcome text.old.store plan.prepared) text.old.anchors.items (log_of text.old.history)) }
-    ensures err { OnErr result (IsUnchanged S.content text.old text.new) }
-    ensures told { IfOk result (λ told. (actions : List Action) →
-        KnowsDelta true actions (S.content text.old.store).cells (S.content text.new.store).cells plan.delta →
-        let pairs = key_pairs seats.now.entries tags.now.tags in
-        TellsCells actions (keyed pairs (S.content text.old.store).cells) (keyed pairs (S.content text.new.store).cells)
-        told) }
-{
-    let told = report(alloc, seats, tags, &text.store, plan.delta.take())?;
-    commit(plan, text);
-    Ok(told)
 }

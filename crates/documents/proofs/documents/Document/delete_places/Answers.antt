@@ -54,21 +54,21 @@ plan_delete-requires-clause-spans g c =
 
 -- what the plan makes of the text
 made : (g : Over) (c : After-drop-spans-2 g)
-    → state_of (g.S.TextStore.content c.carry_out.new.text.store) c.carry_out.new.text.anchors.items
-    (log_of c.carry_out.new.text.history)
+    → state_of (g.S.TextStore.content c.commit.new.text.store) c.commit.new.text.anchors.items
+    (log_of c.commit.new.text.history)
     ≡ deleted (recording_of c.self.inside.settings) c.start_of-start.result c.end_of-end.result c.deref-3.result.now
     (state_in (parts_of g.S.TextStore.content c.self.inside))
 made g c =
     let same = c.in_ok-plan.ensures.same in
-    planned-made c.in_ok-plan.plan.effects c.in_ok-carry_out.ensures.ok same.2 same.1 c.in_ok-plan.ensures.outcome
+    planned-made c.in_ok-plan.plan.effects c.commit.ensures same.2 same.1 c.in_ok-plan.ensures.outcome
     ∙ ap (λ recording. deleted recording c.start_of-start.result c.end_of-end.result c.deref-3.result.now
     (state_in (parts_of g.S.TextStore.content c.self.inside))) c.recording.ensures
 
 -- what is left where the spans are deleted
 left : (g : Over) (c : After-drop-spans-2 g) (limits : LimitTable)
     → Leaves limits (with_state (parts_of g.S.TextStore.content c.self.inside) (state_of
-    (g.S.TextStore.content c.carry_out.new.text.store) c.carry_out.new.text.anchors.items
-    (log_of c.carry_out.new.text.history))) c.args.self.now (Ok Empty)
+    (g.S.TextStore.content c.commit.new.text.store) c.commit.new.text.anchors.items
+    (log_of c.commit.new.text.history))) c.args.self.now (Ok Empty)
     (delete_places c.args.self.now (widget_at c.args.self.now c.args.caller.now.seat) c.args.places.now)
 left g c limits =
     let at = goal.at.returns-clause-does g c in
@@ -98,7 +98,7 @@ returns-clause-told g c = λ follows.
     let same : deletions_in cells c.start_of-start.result c.end_of-end.result c.deref-3.result.now ≡ edits =
     λ i. map (λ (run : Span). deletion (sym text i) run.from run.to)
     (runs_below (sym long i) (delete_set (sym text i) (starts i) (ends i) (in_spans (all i)))) in
-    told-planned pairs c.in_ok-plan.plan.delta c.in_ok-carry_out.ensures.told
+    told-planned pairs c.in_ok-told.ensures c.take-delta.ensures.value
     (ap (λ (content : Content). content.cells) c.in_ok-plan.ensures.same.0)
-    (ap (λ (state : State). state.content.cells) c.in_ok-carry_out.ensures.ok)
+    (ap (λ (state : State). state.content.cells) c.commit.ensures)
     follows same c.in_ok-plan.ensures.delta (ap (λ (d : Document). d.cells) c.self.view_is)

@@ -9,7 +9,7 @@ use Rattle.documents.proofs.ReversalLaws.{CanRevert, leaves-undone, undone-edits
 use Rattle.documents.proofs.StateLaws.{anchors-stand, state_in, with_state}
 use Rattle.documents.proofs.WellFormedLaws.{fits-kept}
 use Rattle.documents.proofs.documents.Document.edit_undo.Given.{Over}
-use Rattle.documents.proofs.documents.Document.edit_undo.Goals.{In_ok-plan, In_ok-told}
+use Rattle.documents.proofs.documents.Document.edit_undo.Goals.{In_ok-plan, After-commit}
 use Rattle.documents.proofs.documents.Document.edit_undo.Goals as goal
 
 pub plan_undo-requires-clause-stand : goal.plan_undo-requires-clause-stand
@@ -60,24 +60,25 @@ left g c state_is =
       scalars = subst (λ found. IfSome found (λ group. AreScalars (replays true group))) is c.in_ok-plan.ensures.scalars;
     }) c.requires.formed state_is
 
-pub carry_out-requires-clause-stand : goal.carry_out-requires-clause-stand
-carry_out-requires-clause-stand g c =
-    let at = (goal.at.carry_out-requires-clause-stand g c).In_ok-plan in
-    subst (λ (content : Content). IfSome c.in_ok-plan.plan.delta (λ delta.
+pub report-requires-clause-stand : goal.report-requires-clause-stand
+report-requires-clause-stand g c =
+    let at = (goal.at.report-requires-clause-stand g c).In_ok-plan in
+    let old = g.S.TextStore.content c.self.inside.text.store in
+    let new = g.S.TextStore.outcome c.plan_undo.new.text.store c.in_ok-plan.plan.prepared in
+    let knows = subst (KnowsDelta c.args.caller.now.follows (replays true (found g at).0) old.cells new.cells)
+    (sym c.take-delta.ensures.value) (knows g at) in
+    subst (λ (content : Content). IfSome c.take-delta.result (λ delta.
     AreHunks 0 (length content.cells) (box_value delta).hunks.items)) (sym c.in_ok-plan.ensures.same.0)
-    (known-stand c.args.caller.now.follows (replays true (found g at).0)
-    (g.S.TextStore.content c.self.inside.text.store).cells
-    (g.S.TextStore.outcome c.plan_undo.new.text.store c.in_ok-plan.plan.prepared).cells c.in_ok-plan.plan.delta
-    (knows g at))
+    (known-stand c.args.caller.now.follows (replays true (found g at).0) old.cells new.cells c.take-delta.result knows)
 
 -- what the plan makes of the text
-made : (g : Over) (c : In_ok-told g)
-    → state_of (g.S.TextStore.content c.carry_out.new.text.store) c.carry_out.new.text.anchors.items
-    (log_of c.carry_out.new.text.history)
+made : (g : Over) (c : After-commit g)
+    → state_of (g.S.TextStore.content c.commit.new.text.store) c.commit.new.text.anchors.items
+    (log_of c.commit.new.text.history)
     ≡ undone (2 * c.number.result) (state_in (parts_of g.S.TextStore.content c.self.inside))
 made g c =
     let same = c.in_ok-plan.ensures.same in
-    planned-made c.in_ok-plan.plan.effects c.in_ok-told.ensures.ok same.2 same.1 c.in_ok-plan.ensures.outcome
+    planned-made c.in_ok-plan.plan.effects c.commit.ensures same.2 same.1 c.in_ok-plan.ensures.outcome
 
 pub invariant_of-self-2 : goal.invariant_of-self-2
 invariant_of-self-2 g c = (left g (goal.at.invariant_of-self-2 g c).In_ok-plan (made g c)).sound
@@ -88,7 +89,7 @@ returns-clause-does g c = (left g (goal.at.returns-clause-does g c).In_ok-plan (
 pub returns-clause-told : goal.returns-clause-told
 returns-clause-told g c = λ follows.
     let at = (goal.at.returns-clause-told g c).In_ok-plan in
-    told-planned (pairs_of (parts_of g.S.TextStore.content c.self.inside)) c.in_ok-plan.plan.delta
-    c.in_ok-told.ensures.told (ap (λ (content : Content). content.cells) c.in_ok-plan.ensures.same.0)
-    (ap (λ (state : State). state.content.cells) c.in_ok-told.ensures.ok) follows
+    told-planned (pairs_of (parts_of g.S.TextStore.content c.self.inside))
+    c.in_ok-told.ensures c.take-delta.ensures.value (ap (λ (content : Content). content.cells) c.in_ok-plan.ensures.same.0)
+    (ap (λ (state : State). state.content.cells) c.commit.ensures) follows
     (undone-edits (can g at) (found g at).1) (knows g at) (ap (λ (d : Document). d.cells) c.self.view_is)

@@ -9,8 +9,8 @@ use Rattle.documents.proofs.PartsLaws.{cells-kept, sits, stand}
 use Rattle.documents.proofs.PlannedLaws.{insertion-edits, keyed-before}
 use Rattle.documents.proofs.StateLaws.{anchors-stand, state_in, with_state}
 use Rattle.documents.proofs.documents.Document.insert_at.Given.{Over}
-use Rattle.documents.proofs.documents.Document.insert_at.Goals.{After-truncate, After-truncate-in-Err-carry_out}
-use Rattle.documents.proofs.documents.Document.insert_at.Goals.{In-Ok-carry_out}
+use Rattle.documents.proofs.documents.Document.insert_at.Goals.{After-truncate, After-truncate-in-Err-report}
+use Rattle.documents.proofs.documents.Document.insert_at.Goals.{After-commit}
 use Rattle.documents.proofs.documents.Document.insert_at.Goals as goal
 
 pub plan_pairs-planned-requires-clause-within : goal.plan_pairs-planned-requires-clause-within
@@ -45,23 +45,23 @@ returns-in-Err-clause-does g c =
     put-left c.args.caller.now.limits.now (widget_at c.args.self.now c.args.caller.now.seat) c.args.at
     c.args.pairs.items (stand c.self.invariant c.self.view_is) (c.in-Err.ensures.fault other))).does
 
-pub carry_out-requires-clause-seated : goal.carry_out-requires-clause-seated
-carry_out-requires-clause-seated g c = c.self.invariant.kept.seats
+pub report-requires-clause-seated : goal.report-requires-clause-seated
+report-requires-clause-seated g c = c.self.invariant.kept.seats
 
-pub carry_out-requires-clause-sound : goal.carry_out-requires-clause-sound
-carry_out-requires-clause-sound g c = c.in-Ok.ensures.sound
+pub report-requires-clause-sound : goal.report-requires-clause-sound
+report-requires-clause-sound g c = c.in-Ok.ensures.sound
 
-pub carry_out-requires-clause-short : goal.carry_out-requires-clause-short
-carry_out-requires-clause-short g c =
+pub report-requires-clause-short : goal.report-requires-clause-short
+report-requires-clause-short g c =
     let long = ap (λ (content : Content). length content.cells) c.in-Ok.ensures.same.0 in
     let short = c.self.invariant.kept.short in
     omega (arith, long, short)
 
 -- what is left where the texts are inserted
-left : (g : Over) (c : In-Ok-carry_out g)
+left : (g : Over) (c : After-commit g)
     → Leaves c.args.caller.now.limits.now (with_state (with_tags c.plan_pairs-planned.new.tags
-    (parts_of g.S.TextStore.content c.self.inside)) (state_of (g.S.TextStore.content c.carry_out.new.text.store)
-    c.carry_out.new.text.anchors.items (log_of c.carry_out.new.text.history))) c.args.self.now (Ok Empty)
+    (parts_of g.S.TextStore.content c.self.inside)) (state_of (g.S.TextStore.content c.commit.new.text.store)
+    c.commit.new.text.anchors.items (log_of c.commit.new.text.history))) c.args.self.now (Ok Empty)
     (insert_at c.args.caller.now.limits.now c.args.self.now (widget_at c.args.self.now c.args.caller.now.seat)
     c.args.at c.args.pairs.items)
 left g c =
@@ -77,39 +77,43 @@ left g c =
       made = plan.made;
       room = plan.fits;
     }) c.requires.within
-    (planned-made c.in-Ok.plan.effects c.in-Ok-carry_out.ensures.ok plan.same.2 plan.same.1 plan.outcome
+    (planned-made c.in-Ok.plan.effects c.commit.ensures plan.same.2 plan.same.1 plan.outcome
     ∙ ap (λ recording. inserted_texts recording Insert c.args.at
     (map (piece_of c.plan_pairs-planned.new.tags.tags slot) c.args.pairs.items) (state_in parts)) c.recording.ensures)
 
-pub invariant_of-self-in-Ok-carry_out : goal.invariant_of-self-in-Ok-carry_out
-invariant_of-self-in-Ok-carry_out g c = (left g c).sound
+pub invariant_of-self-in-Ok-report : goal.invariant_of-self-in-Ok-report
+invariant_of-self-in-Ok-report g c = (left g c).sound
 
-pub returns-in-Ok-carry_out-clause-does : goal.returns-in-Ok-carry_out-clause-does
-returns-in-Ok-carry_out-clause-does g c = (left g c).does
+pub returns-in-Ok-report-clause-does : goal.returns-in-Ok-report-clause-does
+returns-in-Ok-report-clause-does g c = (left g c).does
 
-pub returns-in-Ok-carry_out-clause-told : goal.returns-in-Ok-carry_out-clause-told
-returns-in-Ok-carry_out-clause-told g c = λ follows.
+pub returns-in-Ok-report-clause-told : goal.returns-in-Ok-report-clause-told
+returns-in-Ok-report-clause-told g c = λ follows.
     let document = c.args.self.now in
     let parts = parts_of g.S.TextStore.content c.self.inside in
     let tags = c.plan_pairs-planned.new.tags in
     let plan = c.in-Ok.ensures in
-    told-planned (key_pairs parts.seats.entries tags.tags) c.in-Ok.plan.delta c.in-Ok-carry_out.ensures.told
+    told-planned (key_pairs parts.seats.entries tags.tags) c.in-Ok-report.ensures c.take-delta.ensures.value
     (ap (λ (content : Content). content.cells) plan.same.0)
-    (ap (λ (state : State). state.content.cells) c.in-Ok-carry_out.ensures.ok)
+    (ap (λ (state : State). state.content.cells) c.commit.ensures)
     follows (insertion-edits c.args.caller.now.limits.now document (widget_at document c.args.caller.now.seat) c.args.at
     c.args.pairs.items tags c.number.result (left g c).does) plan.delta
     (keyed-before (stand c.self.invariant c.self.view_is) plan.sound plan.front)
 
 -- nothing is left of one whose report couldn't be made
-unreported : (g : Over) (c : After-truncate-in-Err-carry_out g)
-    → Stands (with_state (with_tags c.truncate-in-Err-carry_out.new.self
-    (parts_of g.S.TextStore.content c.self.inside)) (state_of (g.S.TextStore.content c.carry_out.new.text.store)
-    c.carry_out.new.text.anchors.items (log_of c.carry_out.new.text.history))) c.args.self.now
+unreported : (g : Over) (c : After-truncate-in-Err-report g)
+    → Stands (with_state (with_tags c.truncate-in-Err-report.new.self
+    (parts_of g.S.TextStore.content c.self.inside)) (state_of (g.S.TextStore.content c.plan_pairs-planned.new.text.store)
+    c.plan_pairs-planned.new.text.anchors.items (log_of c.plan_pairs-planned.new.text.history))) c.args.self.now
 unreported g c =
     let plan = c.in-Ok.ensures in
-    let same = c.in-Err-carry_out.ensures.err in
     stands-back (stand c.self.invariant c.self.view_is) c.len-front.ensures.value plan.front
-    c.truncate-in-Err-carry_out.ensures (same.0 ∙ plan.same.0) (same.1 ∙ plan.same.1) (same.2 ∙ plan.same.2)
+    c.truncate-in-Err-report.ensures plan.same.0 plan.same.1 plan.same.2
 
-pub invariant_of-self-in-Err-carry_out : goal.invariant_of-self-in-Err-carry_out
-invariant_of-self-in-Err-carry_out g c = (unreported g c).sound
+pub invariant_of-self-in-Err-report : goal.invariant_of-self-in-Err-report
+invariant_of-self-in-Err-report g c =
+    (unreported g (goal.at.invariant_of-self-in-Err-report g c).After-truncate-in-Err-report).sound
+
+pub invariant_of-self-in-Err-report-2 : goal.invariant_of-self-in-Err-report-2
+invariant_of-self-in-Err-report-2 g c =
+    (unreported g (goal.at.invariant_of-self-in-Err-report-2 g c).After-truncate-in-Err-report).sound

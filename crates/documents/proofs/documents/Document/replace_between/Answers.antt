@@ -11,8 +11,8 @@ use Rattle.documents.proofs.DeltaLaws.{planned-made, told-planned}
 use Rattle.documents.proofs.PlannedLaws.{keyed-before, replacement-edits}
 use Rattle.documents.proofs.ViewLaws.{IsSeen, active-found, ends-found, length-found, ordered-found, see-ends}
 use Rattle.documents.proofs.documents.Document.replace_between.Given.{Over}
-use Rattle.documents.proofs.documents.Document.replace_between.Goals.{After-end_of-last, After-truncate}
-use Rattle.documents.proofs.documents.Document.replace_between.Goals.{In-Ok-carry_out, After-truncate-in-Err-carry_out}
+use Rattle.documents.proofs.documents.Document.replace_between.Goals.{After-end_of-last, After-truncate, After-commit}
+use Rattle.documents.proofs.documents.Document.replace_between.Goals.{After-truncate-in-Err-report}
 use Rattle.documents.proofs.documents.Document.replace_between.Goals as goal
 
 pub start_of-start-requires : goal.start_of-start-requires
@@ -89,23 +89,23 @@ returns-in-Err-clause-does g c =
     (leaves-left (unplanned g c) (λ other. replace-left c.args.caller.now.limits.now c.args.from c.args.to
     c.args.pairs.items sight c.requires.active (c.in-Err.ensures.fault other))).does
 
-pub carry_out-requires-clause-seated : goal.carry_out-requires-clause-seated
-carry_out-requires-clause-seated g c = c.self.invariant.kept.seats
+pub report-requires-clause-seated : goal.report-requires-clause-seated
+report-requires-clause-seated g c = c.self.invariant.kept.seats
 
-pub carry_out-requires-clause-sound : goal.carry_out-requires-clause-sound
-carry_out-requires-clause-sound g c = c.in-Ok.ensures.sound
+pub report-requires-clause-sound : goal.report-requires-clause-sound
+report-requires-clause-sound g c = c.in-Ok.ensures.sound
 
-pub carry_out-requires-clause-short : goal.carry_out-requires-clause-short
-carry_out-requires-clause-short g c =
+pub report-requires-clause-short : goal.report-requires-clause-short
+report-requires-clause-short g c =
     let long = ap (λ (content : Content). length content.cells) c.in-Ok.ensures.same.0 in
     let short = c.self.invariant.kept.short in
     omega (arith, long, short)
 
 -- what is left where the texts are in place
-left : (g : Over) (c : In-Ok-carry_out g)
+left : (g : Over) (c : After-commit g)
     → Leaves c.args.caller.now.limits.now (with_state (with_tags c.plan_replacement-planned.new.tags
-    (parts_of g.S.TextStore.content c.self.inside)) (state_of (g.S.TextStore.content c.carry_out.new.text.store)
-    c.carry_out.new.text.anchors.items (log_of c.carry_out.new.text.history))) c.args.self.now (Ok Empty)
+    (parts_of g.S.TextStore.content c.self.inside)) (state_of (g.S.TextStore.content c.commit.new.text.store)
+    c.commit.new.text.anchors.items (log_of c.commit.new.text.history))) c.args.self.now (Ok Empty)
     (replaced_at c.args.caller.now.limits.now c.args.self.now (widget_at c.args.self.now c.args.caller.now.seat)
     c.args.from c.args.to c.args.pairs.items)
 left g c =
@@ -113,7 +113,7 @@ left g c =
     let slot = c.number-slot.result in
     let plan = c.in-Ok.ensures in
     leaves-replaced c.args.from c.args.to
-    (seen g (goal.at.returns-in-Ok-carry_out-clause-does g c).After-end_of-last) c.requires.active c.requires.ordered
+    (seen g (goal.at.returns-in-Ok-report-clause-does g c).After-end_of-last) c.requires.active c.requires.ordered
     (record {
       bounds = plan.bounds;
       front = plan.front;
@@ -122,29 +122,29 @@ left g c =
       made = plan.made;
       room = plan.fits;
     })
-    (planned-made c.in-Ok.plan.effects c.in-Ok-carry_out.ensures.ok plan.same.2 plan.same.1 plan.outcome
+    (planned-made c.in-Ok.plan.effects c.commit.ensures plan.same.2 plan.same.1 plan.outcome
     ∙ ap (λ recording. replaced recording (2 * slot) (c.end_of-last.result - 1) (start + c.args.from)
     (start + c.args.to) (map (piece_of c.plan_replacement-planned.new.tags.tags slot) c.args.pairs.items)
     (state_in (parts_of g.S.TextStore.content c.self.inside))) c.recording.ensures)
 
-pub invariant_of-self-in-Ok-carry_out : goal.invariant_of-self-in-Ok-carry_out
-invariant_of-self-in-Ok-carry_out g c = (left g c).sound
+pub invariant_of-self-in-Ok-report : goal.invariant_of-self-in-Ok-report
+invariant_of-self-in-Ok-report g c = (left g c).sound
 
-pub returns-in-Ok-carry_out-clause-does : goal.returns-in-Ok-carry_out-clause-does
-returns-in-Ok-carry_out-clause-does g c = (left g c).does
+pub returns-in-Ok-report-clause-does : goal.returns-in-Ok-report-clause-does
+returns-in-Ok-report-clause-does g c = (left g c).does
 
-pub returns-in-Ok-carry_out-clause-told : goal.returns-in-Ok-carry_out-clause-told
-returns-in-Ok-carry_out-clause-told g c = λ follows.
+pub returns-in-Ok-report-clause-told : goal.returns-in-Ok-report-clause-told
+returns-in-Ok-report-clause-told g c = λ follows.
     let document = c.args.self.now in
     let widget = widget_at document c.args.caller.now.seat in
     let parts = parts_of g.S.TextStore.content c.self.inside in
     let tags = c.plan_replacement-planned.new.tags in
     let plan = c.in-Ok.ensures in
-    let sight = seen g (goal.at.returns-in-Ok-carry_out-clause-told g c).After-end_of-last in
+    let sight = seen g (goal.at.returns-in-Ok-report-clause-told g c).After-end_of-last in
     let shows = active-found sight c.requires.active in
-    told-planned (key_pairs parts.seats.entries tags.tags) c.in-Ok.plan.delta c.in-Ok-carry_out.ensures.told
+    told-planned (key_pairs parts.seats.entries tags.tags) c.in-Ok-report.ensures c.take-delta.ensures.value
     (ap (λ (content : Content). content.cells) plan.same.0)
-    (ap (λ (state : State). state.content.cells) c.in-Ok-carry_out.ensures.ok)
+    (ap (λ (state : State). state.content.cells) c.commit.ensures)
     follows (replacement-edits c.args.caller.now.limits.now document widget
     (insertion_offset document widget c.args.from) (insertion_offset document widget c.args.to) c.args.pairs.items tags
     c.number-slot.result parts.content.cells (characters-kept parts document c.self.view_is)
@@ -152,15 +152,19 @@ returns-in-Ok-carry_out-clause-told g c = λ follows.
     (keyed-before (stand c.self.invariant c.self.view_is) plan.sound plan.front)
 
 -- nothing is left of one whose report couldn't be made
-unreported : (g : Over) (c : After-truncate-in-Err-carry_out g)
-    → Stands (with_state (with_tags c.truncate-in-Err-carry_out.new.self
-    (parts_of g.S.TextStore.content c.self.inside)) (state_of (g.S.TextStore.content c.carry_out.new.text.store)
-    c.carry_out.new.text.anchors.items (log_of c.carry_out.new.text.history))) c.args.self.now
+unreported : (g : Over) (c : After-truncate-in-Err-report g)
+    → Stands (with_state (with_tags c.truncate-in-Err-report.new.self
+    (parts_of g.S.TextStore.content c.self.inside)) (state_of (g.S.TextStore.content c.plan_replacement-planned.new.text.store)
+    c.plan_replacement-planned.new.text.anchors.items (log_of c.plan_replacement-planned.new.text.history))) c.args.self.now
 unreported g c =
     let plan = c.in-Ok.ensures in
-    let same = c.in-Err-carry_out.ensures.err in
     stands-back (stand c.self.invariant c.self.view_is) c.len-front.ensures.value plan.front
-    c.truncate-in-Err-carry_out.ensures (same.0 ∙ plan.same.0) (same.1 ∙ plan.same.1) (same.2 ∙ plan.same.2)
+    c.truncate-in-Err-report.ensures plan.same.0 plan.same.1 plan.same.2
 
-pub invariant_of-self-in-Err-carry_out : goal.invariant_of-self-in-Err-carry_out
-invariant_of-self-in-Err-carry_out g c = (unreported g c).sound
+pub invariant_of-self-in-Err-report : goal.invariant_of-self-in-Err-report
+invariant_of-self-in-Err-report g c =
+    (unreported g (goal.at.invariant_of-self-in-Err-report g c).After-truncate-in-Err-report).sound
+
+pub invariant_of-self-in-Err-report-2 : goal.invariant_of-self-in-Err-report-2
+invariant_of-self-in-Err-report-2 g c =
+    (unreported g (goal.at.invariant_of-self-in-Err-report-2 g c).After-truncate-in-Err-report).sound
