@@ -120,7 +120,8 @@ pub use Rattle.std.proofs.lemmas.Grind.{get_or-set_at}
 pub use Rattle.std.proofs.lemmas.List.{drop-drop, drop-take, drop_all, drop_at, drop_more, get_or-drop, get_or-map}
 pub use Rattle.std.proofs.lemmas.List.{get_or-set_other, get_or-take, get_or_append_left, get_or_default, get_or_past}
 pub use Rattle.std.proofs.lemmas.List.{length-map, length-set, length-take-le, map-append, map-id, nil_from_length}
-pub use Rattle.std.proofs.lemmas.List.{replicate_more, take-append-drop, take-take, take_all, take_at, take_more}
+pub use Rattle.std.proofs.lemmas.List.{replicate_more, take-append-drop, take-append-le, take-take, take_all, take_at}
+pub use Rattle.std.proofs.lemmas.List.{take_more}
 pub use Rattle.std.proofs.lemmas.List.Concat.{flat_map-append}
 pub use Rattle.std.proofs.lemmas.List.Elements.{All-append, All-cons, All-drop, All-from_get_or, All-get_or, All-head}
 pub use Rattle.std.proofs.lemmas.List.Elements.{All-map, All-more, All-nil, All-push, All-replicate, All-set, All-tail}

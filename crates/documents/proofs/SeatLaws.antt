@@ -3,7 +3,8 @@ use Rattle.documents.proofs.Common.{◌≡◌, ℕ, Bool, cond, zero, suc, ◌+�
 use Rattle.documents.proofs.Common.{drop, length, refl, sym, ap, subst, ◌∙◌, arith, remove, filter, not, Some}
 use Rattle.documents.proofs.Common.{map-append, length-append, none-some, same_Some, Named, numbers_of, is_among}
 use Rattle.documents.proofs.Common.{filter-append, filter-in, filter-out, take-found, Goes, numbers_gone, seats_left}
-use Rattle.documents.proofs.Common.{slice_get, append_assoc, names_of}
+use Rattle.documents.proofs.Common.{slice_get, append_assoc, names_of, Names, Option, IfSome, chars, take_all}
+use Rattle.documents.proofs.Common.{take-append-le}
 use Rattle.tcl_words.proofs.ListGrowth.{goes_on}
 
 -- the seat of a name at a place
@@ -29,6 +30,33 @@ seat-named (seat ∷ seats) (suc place) name is =
       number = rest.number;
       inside = omega (arith, inside);
     }
+
+-- ---- a seat put last
+
+abbrev with_seat : Names → List ℕ → ℕ → Names
+with_seat seats text number = record seats { entries = seats.entries ++ record { name = chars text; number = number } ∷ [] }
+
+abbrev before : List Named → Names → Names
+before entries seats = record seats { entries = take (length entries) seats.entries }
+
+-- the seat that is made, and those before it
+pub seat-put : (old new : Names) {text name : List ℕ} {made : Option ℕ} {slot : ℕ} → made ≡ Some slot → text ≡ name
+    → IfSome made (λ number. new ≡ with_seat old text number)
+    → record { last : new ≡ with_seat old name slot; front : before old.entries new ≡ old }
+seat-put old new {text} {name} {made} {slot} is named last =
+    let seat : Named = record { name = chars name; number = slot } in
+    let put : new ≡ with_seat old name slot =
+    subst (λ m. IfSome m (λ number. new ≡ with_seat old text number)) is last ∙ ap (λ n. with_seat old n slot) named in
+    let front : take (length old.entries) (old.entries ++ seat ∷ []) ≡ old.entries =
+    take-append-le (length old.entries) old.entries (seat ∷ []) (omega arith)
+    ∙ take_all (length old.entries) old.entries (omega arith) in
+    record { last = put; front = ap (before old.entries) put ∙ ap (λ entries. record old { entries = entries }) front }
+
+-- seats that stay
+pub seats-same : (old new : Names) → new ≡ old → before old.entries new ≡ old
+seats-same old new is =
+    ap (before old.entries) is
+    ∙ ap (λ entries. record old { entries = entries }) (take_all (length old.entries) old.entries (omega arith))
 
 -- ---- slots of names
 

@@ -1,0 +1,109 @@
+use Rattle.documents.proofs.Common.{Result, Ok, Err, OnErr, append-nil, refl, sym}
+use Rattle.std.proofs.lemmas.Result.{IfOk-from_err}
+use Rattle.documents.proofs.SeatLaws.{seat-put, seats-same}
+use Rattle.documents.proofs.seats.make_seat.Goals as goal
+
+on_err : {A E P : Type 0} (result : Result A E) → P → OnErr result P
+on_err (Ok value) holds = tt
+on_err (Err error) holds = holds
+
+pub returns-in_err-from_str : goal.returns-in_err-from_str
+returns-in_err-from_str g c =
+    let result = c.from_residual.result in
+    let fails = c.from_residual.ensures.0 in
+    record {
+      least = IfOk-from_err result _ fails;
+      below = IfOk-from_err result _ fails;
+      last = IfOk-from_err result _ fails;
+      sound = IfOk-from_err result _ fails;
+      store = IfOk-from_err result _ fails;
+      room = IfOk-from_err result _ fails;
+      disabled = (0, sym (append-nil _));
+      anchors = (0, sym (append-nil _));
+      history = refl;
+      front = seats-same c.args.seats.now c.args.seats.now refl;
+      err = on_err result refl;
+    }
+
+pub returns-in_err-slot : goal.returns-in_err-slot
+returns-in_err-slot g c =
+    let result = c.from_residual-in_err-slot.result in
+    let fails = c.from_residual-in_err-slot.ensures.0 in
+    record {
+      least = IfOk-from_err result _ fails;
+      below = IfOk-from_err result _ fails;
+      last = IfOk-from_err result _ fails;
+      sound = IfOk-from_err result _ fails;
+      store = IfOk-from_err result _ fails;
+      room = IfOk-from_err result _ fails;
+      disabled = (0, sym (append-nil _));
+      anchors = (0, sym (append-nil _));
+      history = refl;
+      front = seats-same c.args.seats.now c.create.new.self c.in_err-slot.ensures.err;
+      err = on_err result refl;
+    }
+
+pub returns-in_err-make_room : goal.returns-in_err-make_room
+returns-in_err-make_room g c =
+    let result = c.from_residual-in_err-make_room.result in
+    let fails = c.from_residual-in_err-make_room.ensures.0 in
+    record {
+      least = IfOk-from_err result _ fails;
+      below = IfOk-from_err result _ fails;
+      last = IfOk-from_err result _ fails;
+      sound = IfOk-from_err result _ fails;
+      store = IfOk-from_err result _ fails;
+      room = IfOk-from_err result _ fails;
+      disabled = c.in_err-make_room.ensures.longer;
+      anchors = (0, sym (append-nil _));
+      history = refl;
+      front = (seat-put c.args.seats.now c.create.new.self c.in-Some.is c.in_ok-from_str.ensures.ok
+          c.in_ok-slot.ensures.last).front;
+      err = on_err result refl;
+    }
+
+pub returns-in_err-make_room-2 : goal.returns-in_err-make_room-2
+returns-in_err-make_room-2 g c =
+    let result = c.from_residual-in_err-make_room-2.result in
+    let fails = c.from_residual-in_err-make_room-2.ensures.0 in
+    record {
+      least = IfOk-from_err result _ fails;
+      below = IfOk-from_err result _ fails;
+      last = IfOk-from_err result _ fails;
+      sound = IfOk-from_err result _ fails;
+      store = IfOk-from_err result _ fails;
+      room = IfOk-from_err result _ fails;
+      disabled = c.in_ok-make_room.ensures.longer;
+      anchors = c.in_err-make_room-2.ensures.longer;
+      history = refl;
+      front = (seat-put c.args.seats.now c.create.new.self c.in-Some.is c.in_ok-from_str.ensures.ok
+          c.in_ok-slot.ensures.last).front;
+      err = on_err result refl;
+    }
+
+pub returns-in_err-put_widget_marks : goal.returns-in_err-put_widget_marks
+returns-in_err-put_widget_marks g c =
+    let result = c.from_residual-in_err-put_widget_marks.result in
+    let fails = c.from_residual-in_err-put_widget_marks.ensures.0 in
+    record {
+      least = IfOk-from_err result _ fails;
+      below = IfOk-from_err result _ fails;
+      last = IfOk-from_err result _ fails;
+      sound = IfOk-from_err result _ fails;
+      store = IfOk-from_err result _ fails;
+      room = IfOk-from_err result _ fails;
+      disabled = c.in_ok-make_room.ensures.longer;
+      anchors = c.in_ok-make_room-2.ensures.longer;
+      history = refl;
+      front = (seat-put c.args.seats.now c.create.new.self c.in-Some.is c.in_ok-from_str.ensures.ok
+          c.in_ok-slot.ensures.last).front;
+      err = on_err result c.in_err-put_widget_marks.ensures.err;
+    }
+
+pub returns-clause-last : goal.returns-clause-last
+returns-clause-last g c =
+    (seat-put c.args.seats.now c.create.new.self c.in-Some.is c.in_ok-from_str.ensures.ok c.in_ok-slot.ensures.last).last
+
+pub returns-clause-front : goal.returns-clause-front
+returns-clause-front g c =
+    (seat-put c.args.seats.now c.create.new.self c.in-Some.is c.in_ok-from_str.ensures.ok c.in_ok-slot.ensures.last).front
