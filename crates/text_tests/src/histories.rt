@@ -70,12 +70,15 @@ fn texts_of(alloc: Global, group: Option<Group<'_>>) -> Result<String, Fail> {
     Ok(texts)
 }
 
-fn carry_out(
-    rt: &impl Abort,
-    alloc: Global,
-    history: &mut UndoStack,
-    step: &HistoryStep,
-) -> Result<(), Fail> {
+// Whether these are the texts of the groups that undo and redo would move.
+fn has(alloc: Global, history: &UndoStack, undo: &str, redo: &str) -> Result<bool, Fail> {
+    let undone = texts_of(alloc, history.last_undo())?;
+    let redone = texts_of(alloc, history.last_redo())?;
+    Ok(undone.as_str() == undo && redone.as_str() == redo)
+}
+
+// Carries out a step. Returns whether what the step says holds.
+fn carry_out(alloc: Global, history: &mut UndoStack, step: &HistoryStep) -> Result<bool, Fail> {
     match step {
         HistoryStep::Note(text) => note(alloc, history, text)?,
         HistoryStep::Separate => history.separator(),
@@ -85,16 +88,10 @@ fn carry_out(
         HistoryStep::Limit(most) => history.set_limit(*most),
         HistoryStep::Save => history.set_modified(false),
         HistoryStep::Has(undo, redo, modified) => {
-            let undone = texts_of(alloc, history.last_undo())?;
-            let redone = texts_of(alloc, history.last_redo())?;
-            let is_so = undone.as_str() == *undo && redone.as_str() == *redo;
-            assert!(rt;
-                is_so && history.modified() == *modified,
-                "{undone} {redone}"
-            );
+            return Ok(has(alloc, history, undo, redo)? && history.modified() == *modified);
         }
     }
-    Ok(())
+    Ok(true)
 }
 
 fn carry_out_all(
@@ -103,8 +100,9 @@ fn carry_out_all(
     history: &mut UndoStack,
     steps: &[HistoryStep],
 ) -> Result<(), Fail> {
-    for step in steps {
-        carry_out(rt, alloc, history, step)?;
+    for (index, step) in steps.iter().enumerate() {
+        let holds = carry_out(alloc, history, step)?;
+        assert!(rt; holds, "step {index}");
     }
     Ok(())
 }

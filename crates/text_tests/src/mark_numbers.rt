@@ -15,11 +15,13 @@ enum MarkStep {
     IsNoNumber(u16),
 }
 
-fn creates(rt: &impl Abort, alloc: Global, marks: &mut MarkTable, name: &str) -> Result<(), Fail> {
-    assert!(rt; marks.find(name).is_none(), "{name} is new");
+// Whether a name is new, and is found once it is created.
+fn creates(alloc: Global, marks: &mut MarkTable, name: &str) -> Result<bool, Fail> {
+    if marks.find(name).is_some() {
+        return Ok(false);
+    }
     let created = marks.create(String::from_str(alloc, name)?)?;
-    assert!(rt; created.is_some() && created == marks.find(name), "{name}");
-    Ok(())
+    Ok(created.is_some() && created == marks.find(name))
 }
 
 fn is_last(marks: &MarkTable, name: &str, number: MarkNo) -> bool {
@@ -32,23 +34,17 @@ fn is_last(marks: &MarkTable, name: &str, number: MarkNo) -> bool {
         && marks.gravity(name) == Ok(Gravity::Right)
 }
 
-fn carry_out(
-    rt: &impl Abort,
-    alloc: Global,
-    marks: &mut MarkTable,
-    step: &MarkStep,
-) -> Result<(), Fail> {
+// Carries out a step. Returns whether what the step says holds.
+fn carry_out(alloc: Global, marks: &mut MarkTable, step: &MarkStep) -> Result<bool, Fail> {
     match step {
-        MarkStep::Create(name) => creates(rt, alloc, marks, name)?,
-        MarkStep::Unset(name) => marks.unset(name),
-        MarkStep::HasNumber(name, number) => {
-            assert!(rt; is_last(marks, name, MarkNo(*number)), "{name}");
+        MarkStep::Create(name) => creates(alloc, marks, name),
+        MarkStep::Unset(name) => {
+            marks.unset(name);
+            Ok(true)
         }
-        MarkStep::IsNoNumber(number) => {
-            assert!(rt; marks.place(MarkNo(*number)).is_none(), "{number}");
-        }
+        MarkStep::HasNumber(name, number) => Ok(is_last(marks, name, MarkNo(*number))),
+        MarkStep::IsNoNumber(number) => Ok(marks.place(MarkNo(*number)).is_none()),
     }
-    Ok(())
 }
 
 static STEPS: [MarkStep; 13] = [
@@ -73,8 +69,9 @@ fn carry_out_all(
     marks: &mut MarkTable,
     steps: &[MarkStep],
 ) -> Result<(), Fail> {
-    for step in steps {
-        carry_out(rt, alloc, marks, step)?;
+    for (index, step) in steps.iter().enumerate() {
+        let holds = carry_out(alloc, marks, step)?;
+        assert!(rt; holds, "step {index}");
     }
     Ok(())
 }
@@ -97,7 +94,8 @@ fn name_of(alloc: Global, number: u16) -> Result<String, Fail> {
 
 fn create_many(rt: &impl Abort, alloc: Global, marks: &mut MarkTable) -> Result<(), Fail> {
     for number in 0..MANY {
-        creates(rt, alloc, marks, name_of(alloc, number)?.as_str())?;
+        let is_created = creates(alloc, marks, name_of(alloc, number)?.as_str())?;
+        assert!(rt; is_created, "{number}");
     }
     Ok(())
 }
@@ -119,10 +117,14 @@ static AFTER_MANY: [MarkStep; 5] = [
     MarkStep::IsNoNumber(130),
 ];
 
+fn check_many(rt: &impl Abort, alloc: Global, marks: &mut MarkTable) -> Result<(), Fail> {
+    create_many(rt, alloc, marks)?;
+    unset_many(alloc, marks)?;
+    carry_out_all(rt, alloc, marks, &AFTER_MANY)
+}
+
 #[test]
 fn many_marks_come_and_go(rt: HostRuntime) -> Result<(), Fail> {
     let mut marks = table_of(rt.alloc(), MANY)?;
-    create_many(&rt, rt.alloc(), &mut marks)?;
-    unset_many(rt.alloc(), &mut marks)?;
-    carry_out_all(&rt, rt.alloc(), &mut marks, &AFTER_MANY)
+    check_many(&rt, rt.alloc(), &mut marks)
 }
