@@ -253,14 +253,20 @@ leaves-settings {document} {place} {slot} {settings} {anchors} limits old before
 
 -- ---- names
 
+-- the name at a seat is that of the widget there
+pub own-name : {parts : Parts} {document : Document} (place : ℕ) (name : List ℕ) → Stands parts document →
+    slice_get (names_of parts.seats.entries) place ≡ Some name
+    → name ≡ (widget_at document place).name
+own-name {parts} {document} place name stands is =
+    let found = seat-named parts.seats.entries place name is in
+    sym found.named ∙ ap (λ (w : Widget). w.name) (sym (widget-is parts document place found.seat stands.is found.stands))
+
 -- the names of the others
 pub others-kept : {parts : Parts} {document : Document} (place : ℕ) (name : List ℕ) → Stands parts document →
     slice_get (names_of parts.seats.entries) place ≡ Some name
     → filter (λ other. not (is_same other name)) (names_of parts.seats.entries)
     ≡ filter (λ other. not (is_same other (widget_at document place).name)) (window_names document)
 others-kept {parts} {document} place name stands is =
-    let found = seat-named parts.seats.entries place name is in
-    let own : name ≡ (widget_at document place).name = sym found.named
-    ∙ ap (λ (w : Widget). w.name) (sym (widget-is parts document place found.seat stands.is found.stands)) in
+    let own = own-name place name stands is in
     ap₂ (λ n names. filter (λ other. not (is_same other n)) names) own (sym (windows-kept parts)
     ∙ ap window_names stands.is)

@@ -124,6 +124,14 @@ impl<S: TextStore> Document<S> {
         self.seats.len()
     }
 
+    /// Returns the name of the widget at a seat.
+    pub fn widget_name(&self, seat: usize) -> &str
+        requires { seat < length self.now.widgets }
+        ensures { chars result.now ≡ (widget_at self.now seat).name }
+    {
+        self.seats.name(seat)
+    }
+
     /// The seat of the widget of a name: its place in the order of their creation.
     pub fn find_widget(&self, name: &str) -> Option<usize>
         ensures none { result ≡ None → widget_named (chars name.now) self.now ≡ None }

@@ -1,13 +1,12 @@
 -- The names that most proofs of this crate cite, passed on from one place. Declares nothing.
 pub use Rattle.std.proofs.Common.{[], ap₂, if◌then◌else◌, true≢false, ℕ, ◌&&◌, ◌++◌, ◌+◌, ◌-◌, ◌<◌, ◌==◌, ◌||◌, ◌∙◌}
-pub use Rattle.std.proofs.Common.{◌∷◌, ◌≡◌, ◌≢◌, ◌≤◌, ◌⊎◌, Bool, Err, Global, IfErr, IfOk, IfSome, IsUtf8, List, None}
-pub use Rattle.std.proofs.Common.{Ok, Option, Result, Some, String, ap, append-nil, append_assoc, arith, chars, cond}
-pub use Rattle.std.proofs.Common.{drop, encode_utf8, encode_utf8_all, eqb-true, false, filter, find, flat_map, get_or}
-pub use Rattle.std.proofs.Common.{inl, inr, insert, is_ok, is_some, length, map, nat_le, nat_lt, not, ok_or, option_map}
-pub use Rattle.std.proofs.Common.{refl, remove, replicate, reverse, rules, slice_get, slice_set, string_bytes, subst}
-pub use Rattle.std.proofs.Common.{suc, sym, take, tests, true, zero}
+pub use Rattle.std.proofs.Common.{◌∷◌, ◌≡◌, ◌≢◌, ◌≤◌, ◌⊎◌, Bool, Err, IfErr, IfOk, IfSome, IsUtf8, List, None, Ok}
+pub use Rattle.std.proofs.Common.{Option, Result, Some, String, ap, append-nil, append_assoc, arith, chars, cond, drop}
+pub use Rattle.std.proofs.Common.{encode_utf8, encode_utf8_all, eqb-true, false, filter, flat_map, get_or, inl, inr}
+pub use Rattle.std.proofs.Common.{is_ok, is_some, length, map, nat_le, nat_lt, not, ok_or, option_map, refl, reverse}
+pub use Rattle.std.proofs.Common.{slice_set, string_bytes, subst, suc, sym, take, true, zero}
 pub use Rattle.command_effects.proofs.CountLaws.{among-append}
-pub use Rattle.command_effects.proofs.WrittenLaws.{filter-append, take-found}
+pub use Rattle.command_effects.proofs.WrittenLaws.{filter-append}
 pub use Rattle.command_effects.specs.Arguments.{first_of, first_two_of, none_or_one_of, one_or_two_of, two_of}
 pub use Rattle.command_effects.specs.Faults.{shape_fault, with_value}
 pub use Rattle.command_effects.specs.Listing.{is_filled}
@@ -89,32 +88,28 @@ pub use Rattle.peers.specs.Step.{create_with, destroy, destroy_shaped, has_widge
 pub use Rattle.peers.specs.Step.{refuses, seat_step, step}
 pub use Rattle.peers.specs.Tags.{add_words, next_between, place_or, previous_between, remove_words, tag_add, tag_lower}
 pub use Rattle.peers.specs.Tags.{tag_raise, tag_remove}
-pub use Rattle.peers.specs.Texts.{got, insert_pairs, insert_words, text_of, texts_of_places}
+pub use Rattle.peers.specs.Texts.{got, insert, insert_pairs, insert_words, text_of, texts_of_places}
 pub use Rattle.peers.specs.Told.{AreTold, TellsAt, TellsOf, answer_of, edited, no_edit}
 pub use Rattle.peers.specs.WellFormed.{IsWellFormed}
 pub use Rattle.peers.specs.Widgets.{peer_create, peer_settings, peer_with, peer_words}
-pub use Rattle.peers.specs.Windows.{Homes, home_in, home_kept, homes_from, homes_of, names_in, places_in}
-pub use Rattle.peers.specs.World.{World, all_windows, document_at, home, windows_of}
+pub use Rattle.peers.specs.Windows.{Homes, home_in, home_kept, homes_at, homes_from, homes_of}
+pub use Rattle.peers.specs.World.{IsAt, World, all_windows, document_at, home, windows_of}
 pub use Rattle.peers.specs.declared.told.Told.{Told}
 pub use Rattle.std.proofs.lemmas.Bool.{false≢true, and_parts, eqb-false, false_from_ne_true, lt-ltb, ltb-false}
 pub use Rattle.std.proofs.lemmas.Bool.{ltb-true, or_parts, or_right}
 pub use Rattle.std.proofs.lemmas.Bool.Decides.{Decides-eqb, nat_tests}
 pub use Rattle.std.proofs.lemmas.Grind.{flat_map-append}
-pub use Rattle.std.proofs.lemmas.List.{drop-map, drop_more, get_or-set_other, get_or-set_same, get_or_read}
-pub use Rattle.std.proofs.lemmas.List.{length-append, length-map, length-replicate, length-set, length-take}
-pub use Rattle.std.proofs.lemmas.List.{length-take-le, map-append, nil_from_length, reverse-append, set-get_or}
-pub use Rattle.std.proofs.lemmas.List.{take-append-le, take-map, take_all, take_at, take_more, take_rest}
-pub use Rattle.std.proofs.lemmas.List.Edits.{insert-append_left, insert-append_right, insert_end, length-insert}
+pub use Rattle.std.proofs.lemmas.List.{drop-map, get_or-set_other, get_or-set_same, get_or_read, length-append}
+pub use Rattle.std.proofs.lemmas.List.{length-map, length-set, length-take-le, map-append, nil_from_length}
+pub use Rattle.std.proofs.lemmas.List.{reverse-append, set-get_or, take-append-le, take-map, take_all, take_at}
+pub use Rattle.std.proofs.lemmas.List.{take_more, take_rest}
 pub use Rattle.std.proofs.lemmas.List.Elements.{All-append, All-cons, All-drop, All-nil, All-take}
-pub use Rattle.std.proofs.lemmas.Option.{none-some, slice_get-map}
 pub use Rattle.std.proofs.lemmas.Result.{IfOk-weaker}
 pub use Rattle.std.proofs.lemmas.Slice.Eq.{bytes_eq-Decides}
 pub use Rattle.std.proofs.lemmas.Str.{IsUtf8-past_char, IsUtf8-string_bytes, chars-nil, chars_past_char, encode_ascii}
 pub use Rattle.std.proofs.lemmas.Str.{encodes-chars}
-pub use Rattle.std.specs.List.{All, AllByRecursion, IsDistinct}
-pub use Rattle.std.specs.Map.{keys_of, lookup, values_of}
-pub use Rattle.std.specs.Option.{option_map_or}
-pub use Rattle.std.specs.Prelude.{ℤ, ⊤, IsErr, IsErrAnd, OnErr, OnOk, bytes_eq, negsuc, option_and_then, pos, position}
+pub use Rattle.std.specs.List.{All, AllByRecursion, IsDistinct, find}
+pub use Rattle.std.specs.Prelude.{ℤ, ⊤, IsErr, IsErrAnd, MatchResult, OnErr, OnOk, negsuc, option_and_then, pos}
 pub use Rattle.std.specs.Prelude.{slice_index_or}
 pub use Rattle.tcl_words.specs.ListGrowth.{Goes}
 pub use Rattle.tcl_words.specs.Unread.{texts_of}

@@ -15,8 +15,7 @@ use Rattle.peers.proofs.Common.{mark_gravity, mark_set, set_at, set_words, confi
 use Rattle.peers.proofs.Common.{add_words, remove_words, tag_add, tag_lower, tag_raise, tag_remove, insert_pairs}
 use Rattle.peers.proofs.Common.{insert_words, peer_create, peer_settings, peer_with, Result, nat_le, nat_lt}
 use Rattle.peers.proofs.Common.{if◌then◌else◌, Gravity, Place, gravity_of, edit_modified, modified_word, IsCarried}
-use Rattle.peers.proofs.Common.{IsTextEdited, IsMarked, IsQuiet, IsTagged, carried-active, carried-with}
-use Rattle.peers.specs.Texts.{insert}
+use Rattle.peers.proofs.Common.{IsTextEdited, IsMarked, IsQuiet, IsTagged, carried-active, carried-with, insert}
 use Rattle.documents.proofs.IndexPlaceLaws.{place-within}
 
 -- ---- places of indices

@@ -4,7 +4,8 @@ use Rattle.peers.proofs.Common.{None, filter, length, map, take, option_map, ref
 use Rattle.peers.proofs.Common.{true≢false, ◌⊎◌, inl, inr, nat_lt, slice_set, if◌then◌else◌, AllByRecursion, lt-ltb}
 use Rattle.peers.proofs.Common.{ltb-true, is_among, is_same, Document, Widget, window_names, is_kept, keeps_some}
 use Rattle.peers.proofs.Common.{widget_named, without_widgets, among-append, has_widgets, document_at, home, windows_of}
-use Rattle.peers.proofs.Common.{find, or_parts, or_right, get_or-set_other, get_or-set_same, bytes_eq-turned}
+use Rattle.peers.proofs.Common.{or_parts, or_right, get_or-set_other, get_or-set_same, bytes_eq-turned}
+use Rattle.std.proofs.Common.{find}
 use Rattle.peers.proofs.WorldLaws.{left-names}
 use Rattle.documents.specs.Widgets as widgets
 

@@ -2,13 +2,14 @@
 use Rattle.peers.proofs.Common.{◌≡◌, ◌≢◌, ℕ, suc, ◌<◌, true, false, cond, List, [], ◌∷◌, length, slice_set, option_map}
 use Rattle.peers.proofs.Common.{Option, Some, None, refl, sym, ap, subst, ◌∙◌, arith, IsDistinct, length-map}
 use Rattle.peers.proofs.Common.{LimitTable, is_among, is_same, Answer, Fault, Memory, Document, Widget, Change, Does}
-use Rattle.peers.proofs.Common.{refused, widget_named, shape_fault, reading, PeerCreate, Shape, ShapeFault}
-use Rattle.peers.proofs.Common.{arguments_of, call_of, command, done, shaped, peer_create, IsWellFormedDocument}
-use Rattle.peers.proofs.Common.{window_names, changed, on_found, IsWellFormed, homes_of, names_in, World, all_windows}
-use Rattle.peers.proofs.Common.{document_at, home, windows_of, Ok, Err, Result, IfErr, find, map, ◌||◌, bytes_eq-turned}
-use Rattle.peers.proofs.Common.{Homes, get_or, home_in}
-use Rattle.peers.proofs.WorldLaws.{all-at, all-changed, home-found, homes-windows, read-is, same-homes, set-same}
-use Rattle.peers.proofs.WorldLaws.{with_all}
+use Rattle.peers.proofs.Common.{refused, shape_fault, reading, PeerCreate, Shape, ShapeFault, arguments_of, call_of}
+use Rattle.peers.proofs.Common.{command, done, shaped, peer_create, IsWellFormedDocument, window_names, changed}
+use Rattle.peers.proofs.Common.{on_found, on_home, on_widget, refuses, seat_step, IsAt, IsWellFormed, World, widget_at}
+use Rattle.peers.proofs.Common.{all_windows, document_at, home, windows_of, Ok, Err, Result, IfErr, IsErrAnd}
+use Rattle.peers.proofs.Common.{MatchResult}
+use Rattle.peers.proofs.MakesLaws.{changed-refuses}
+use Rattle.peers.proofs.WindowLaws.{same-windows}
+use Rattle.peers.proofs.WorldLaws.{all-at, all-changed, set-same, with_all}
 
 -- ---- where a widget is found
 
@@ -43,60 +44,12 @@ home-is name (document ∷ documents) place found =
         × (is_among name (window_names (document_at (document ∷ documents) at)) ≡ true)) next
         (omega (arith, rest.0), rest.1)
 
-pub home-stands : (name : List ℕ) (documents : List Document) {homes : Homes} {found : Option ℕ} →
-    homes ≡ homes_of documents → found ≡ home_in name homes → found ≡ home name documents
-home-stands name documents same is = is ∙ ap (home_in name) same ∙ home-found name documents
-
--- a document that is read at the place of the widget of a name
-pub record IsHome (name : List ℕ) (documents : List Document) (place : ℕ) (document : Document) : Type 0 where
-  pub some : home name documents ≡ Some place
-  pub within : place < length documents
-  pub read : document ≡ document_at documents place
-  pub named : is_among name (window_names document) ≡ true
-
-pub is-home : (name : List ℕ) (documents : List Document) (place : ℕ) (document : Document) →
-    home name documents ≡ Some place → document ≡ get_or documents place document → IsHome name documents place document
-is-home name documents place document some is =
-    let found = home-is name documents place some in
-    let read = read-is documents place document found.0 is in
-    record {
-      some = some;
-      within = found.0;
-      read = read;
-      named = ap (λ (d : Document). is_among name (window_names d)) read ∙ found.1;
-    }
-
--- a name of a document is that of one of its widgets
-pub some-widget : (name : List ℕ) (document : Document) → is_among name (window_names document) ≡ true →
-    (widget : Widget) × (widget_named name document ≡ Some widget)
-some-widget name document among = all document.widgets among
-  where
-    all : (widgets : List Widget) → is_among name (map (λ (widget : Widget). widget.name) widgets) ≡ true
-        → (found : Widget) × (find (λ (widget : Widget). is_same widget.name name) widgets ≡ Some found)
-    all [] none = absurd (let no : false ≡ true = none in cc)
-    all (widget ∷ widgets) is =
-        elim (is_same name widget.name) as (λ b. is_same name widget.name ≡ b →
-        (b || is_among name (map (λ (w : Widget). w.name) widgets)) ≡ true
-        → (found : Widget) × (find (λ (w : Widget). is_same w.name name) (widget ∷ widgets) ≡ Some found)) [
-          | true ↦ λ same _. (
-            widget,
-            ap (λ b. cond b (Some widget) (find (λ (w : Widget). is_same w.name name) widgets))
-                (bytes_eq-turned widget.name name ∙ same),
-          )
-          | false ↦ λ other rest.
-              let found = all widgets rest in (
-                found.0,
-                ap (λ b. cond b (Some widget) (find (λ (w : Widget). is_same w.name name) widgets))
-                    (bytes_eq-turned widget.name name ∙ other) ∙ found.1,
-              )
-        ] refl is
-
--- a command of a widget that is found changes its document
-pub found-change : (world : World) (place : ℕ) (document : Document) (words : List (List ℕ)) (found : Option Widget)
-    (widget : Widget) → found ≡ Some widget
-    → on_found world place document words found
-    ≡ changed world place (command world.limits (all_windows world) document widget words)
-found-change world place document words found widget is = ap (on_found world place document words) is
+-- a command of the widget of a name is that of the widget at its seat
+pub at-step : (world : World) (name : List ℕ) (words : List (List ℕ)) {place seat : ℕ} →
+    IsAt name world.documents place seat → on_widget world name words ≡ seat_step world place seat words
+at-step world name words {place} {seat} at =
+    ap (on_home world name words) at.found
+    ∙ ap (on_found world place (document_at world.documents place) words) at.named
 
 -- words that are `peer create`
 pub peer-command : (limits : LimitTable) (windows : List (List ℕ)) (document : Document) (widget : Widget)
@@ -114,6 +67,33 @@ pub bad-command : (limits : LimitTable) (windows : List (List ℕ)) (document : 
     → reading words ≡ Err fault → command limits windows document widget words ≡ refused document (shape_fault fault)
 bad-command limits windows document widget words fault is = ap (shaped limits windows document widget words) is
 
+-- the shape of words, and its fault, by what is made of them
+pub shape-kept : (found : Result Shape ShapeFault) (result : Result Shape Fault) (shape : Shape) →
+    MatchResult found (λ x. result ≡ Ok x) (λ e. IsErrAnd result (λ made. made ≡ shape_fault e))
+    → result ≡ Ok shape → found ≡ Ok shape
+shape-kept (Ok x) result shape cases is =
+    let same : x ≡ shape = let both : Ok x ≡ Ok shape = sym cases ∙ is in cc in
+    ap Ok same
+shape-kept (Err e) result shape cases is = absurd (subst (λ r. IsErrAnd r (λ made. made ≡ shape_fault e)) is cases)
+
+pub shape-fault : (found : Result Shape ShapeFault) (result : Result Shape Fault) (fault : Fault) →
+    MatchResult found (λ x. result ≡ Ok x) (λ e. IsErrAnd result (λ made. made ≡ shape_fault e))
+    → result ≡ Err fault → (e : ShapeFault) × (found ≡ Err e) × (fault ≡ shape_fault e)
+shape-fault (Ok x) result fault cases is = absurd (let h : Ok x ≡ Err fault = sym cases ∙ is in cc)
+shape-fault (Err e) result fault cases is =
+    (e, refl, subst (λ r. IsErrAnd r (λ made. made ≡ shape_fault e)) is cases)
+
+-- words that are no command, of the widget of a name
+pub refused-at : (world : World) (name : List ℕ) (words : List (List ℕ)) {place seat : ℕ} (fault : ShapeFault) →
+    IsAt name world.documents place seat → reading words ≡ Err fault
+    → on_widget world name words ≡ refuses world (shape_fault fault)
+refused-at world name words {place} {seat} fault at is =
+    let document = document_at world.documents place in
+    at-step world name words at
+    ∙ ap (changed world place) (bad-command world.limits (all_windows world) document (widget_at document seat) words
+    fault is)
+    ∙ changed-refuses world place (shape_fault fault)
+
 -- ---- a command of one document
 
 module _ (documents : List Document) (place : ℕ) {limits : LimitTable} {new : Document} {result : Result Answer Fault}
@@ -130,11 +110,8 @@ module _ (documents : List Document) (place : ℕ) {limits : LimitTable} {new : 
       refuse (Ok answer) same = tt
       refuse (Err fault) same = ap (with_all limits) (ap (slice_set documents place) same ∙ set-same documents place)
 
-  pub does-homes : homes_of (slice_set documents place new) ≡ homes_of documents
-  does-homes = same-homes documents place new does.windows
-
   does-windows : windows_of (slice_set documents place new) ≡ windows_of documents
-  does-windows = sym (homes-windows (slice_set documents place new)) ∙ ap names_in does-homes ∙ homes-windows documents
+  does-windows = same-windows documents place new does.windows
 
   pub does-form : IsWellFormed (with_all limits documents) → place < length documents →
       IsWellFormed (with_all limits (slice_set documents place new))

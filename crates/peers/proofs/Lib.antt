@@ -1,6 +1,5 @@
 pub mod ArgumentLaws
 pub mod Common
-pub mod CopyLaws
 pub mod DoneLaws
 pub mod DroppedLaws
 pub mod FollowLaws

@@ -21,10 +21,10 @@ use Rattle.peers.proofs.Common.{slice_index_or, zero, is_idle, tags_with, within
 use Rattle.peers.proofs.Common.{redo_found, undo_found, next_redo, next_undo, total, with_name, NoSuchTag, TextTooLong}
 use Rattle.peers.proofs.Common.{TooManyMarks, TooManyTags, modified_word, NamesWindow, Gravity, Place, gravity_of}
 use Rattle.peers.proofs.Common.{bad_or, shape_in, text_entry, destroy_entry, characters, redone, undone, joined_text}
+use Rattle.peers.proofs.Common.{insert}
 use Rattle.edit_ops.specs.Replays.{replays}
 use Rattle.edit_ops.specs.Told.{deletion, insertion}
 use Rattle.documents.specs.Promise.{edited}
-use Rattle.peers.specs.Texts.{insert}
 use Rattle.command_table.specs.declared.shapes.ShapeFault.TheVariants.{WrongArguments}
 use Rattle.undo_stack.specs.declared.actions.Action.{Action}
 use Rattle.peers.proofs.WorldLaws.{set-same}

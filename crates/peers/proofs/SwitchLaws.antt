@@ -2,8 +2,7 @@
 use Rattle.peers.proofs.Common.{◌≡◌, ℕ, ◌+◌, ◌<◌, true, false, cond, List, [], ◌∷◌, ◌++◌, length, take, refl, sym, ap}
 use Rattle.peers.proofs.Common.{◌∙◌, Some, String, ◌||◌, chars, get_or, if◌then◌else◌, reverse, string_bytes}
 use Rattle.peers.proofs.Common.{reverse-append, texts_of, literal, direction_by, direction_of, is_direction, stands_for}
-use Rattle.peers.proofs.Common.{turned}
-use Rattle.std.specs.List.{find}
+use Rattle.peers.proofs.Common.{turned, find}
 use Rattle.command_effects.proofs.SlotLaws.{texts-more}
 use Rattle.index_grammar.specs.declared.indices.Direction.{Direction}
 use Rattle.index_grammar.specs.declared.indices.Direction.TheVariants.{Back, Forward}

@@ -6,8 +6,7 @@ use Rattle.peers.proofs.Common.{replace_span, place_at, watched, Change, answere
 use Rattle.peers.proofs.Common.{insert_at, insertion_offset, is_idle, IsPlaced, delete, replace, replace_places}
 use Rattle.peers.proofs.Common.{replace_words, insert_pairs, insert_words, places_at, AllByRecursion, no_widget}
 use Rattle.peers.proofs.Common.{insert_key, deleted-taken, inserted-taken, placed-active, refused-taken, replaced-taken}
-use Rattle.peers.proofs.Common.{still-taken}
-use Rattle.peers.specs.Texts.{insert}
+use Rattle.peers.proofs.Common.{still-taken, insert}
 use Rattle.peers.proofs.DoneLaws.{places-within}
 
 -- what holds of a refusal, and of what follows a value

@@ -1,212 +1,185 @@
--- What is seen of a map of names: each with the place of its document.
-use Rattle.peers.proofs.Common.{◌≡◌, ℕ, zero, suc, ◌+◌, ◌-◌, ◌<◌, ◌≤◌, true, false, cond, Bool, None, Some, List, []}
-use Rattle.peers.proofs.Common.{◌∷◌, ◌++◌, length, map, take, drop, get_or, slice_get, slice_set, replicate, filter}
-use Rattle.peers.proofs.Common.{refl, sym, ap, ap₂, ◌∙◌, arith, true≢false, append_assoc, bytes_eq, IsUtf8, position}
-use Rattle.peers.proofs.Common.{remove, AllByRecursion, keys_of, lookup, values_of, length-map, map-append, take-map}
-use Rattle.peers.proofs.Common.{drop-map, length-append, length-take, drop_more, length-replicate, none-some}
-use Rattle.peers.proofs.Common.{IsUtf8-string_bytes, option_map_or, is_same, Homes, home_in, home_kept, names_in}
-use Rattle.peers.proofs.Common.{places_in, chars, string_bytes, String, insert}
+-- The names of all widgets, as widgets come and go.
+use Rattle.peers.proofs.Common.{◌≡◌, ℕ, zero, suc, ◌+◌, ◌<◌, ◌≤◌, Bool, true, false, cond, List, [], ◌∷◌, ◌++◌, length}
+use Rattle.peers.proofs.Common.{map, take, filter, flat_map, slice_set, refl, sym, ap, ap₂, ◌∙◌, append_assoc}
+use Rattle.peers.proofs.Common.{append-nil, arith, length-append, take_more, filter-append, flat_map-append}
+use Rattle.peers.proofs.Common.{AllByRecursion, is_among, is_same, or_parts, subst, bytes_eq-turned, Document}
+use Rattle.peers.proofs.Common.{bare_document, window_names, document_at, windows_of}
 use Rattle.std.specs.List.{IsDistinct}
-use Rattle.std.specs.String.{string_eq}
-use Rattle.indexmap.specs.IndexMap.{IndexMap, move_index, insert_entry, insert_index, set_value_at}
-use Rattle.std.specs.HashMap.{ContainsKey}
-use Rattle.indexmap.proofs.CallerLemmas.{insert_entry-new}
-use Rattle.indexmap.proofs.MapLemmas.{Found-position, Missing-position, absent_from_lookup, or_len-absent}
-use Rattle.command_effects.proofs.WordLaws.{bytes_eq-chars}
-
-module _ {Z : Type 0} where
-  -- a name is found where its bytes are
-  pub home-seen : (bytes : List ℕ) → IsUtf8 bytes → (es : List (String Z × ℕ))
-      → home_in (chars bytes) (map (home_kept {Z = Z}) es)
-      ≡ lookup (λ (k : String Z). bytes_eq bytes (string_bytes k)) es
-  home-seen bytes text [] = refl
-  home-seen bytes text (e ∷ es) =
-      ap₂ (λ b found. cond b (Some e.1) found)
-      (sym (bytes_eq-chars bytes (string_bytes e.0) text (IsUtf8-string_bytes e.0))) (home-seen bytes text es)
-
-  -- a name that stands at an index, and one that stands at none
-  pub home-at : (bytes : List ℕ) → IsUtf8 bytes → (es : List (String Z × ℕ)) (index home : ℕ)
-      → position (λ (k : String Z). bytes_eq bytes (string_bytes k)) (keys_of es) ≡ Some index
-      → slice_get (values_of es) index ≡ Some home → home_in (chars bytes) (map (home_kept {Z = Z}) es) ≡ Some home
-  home-at bytes text es index home found there = home-seen bytes text es
-      ∙ (Found-position (λ k. bytes_eq bytes (string_bytes k)) es index found).value ∙ there
-
-  pub home-none : (bytes : List ℕ) → IsUtf8 bytes → (es : List (String Z × ℕ))
-      → position (λ (k : String Z). bytes_eq bytes (string_bytes k)) (keys_of es) ≡ None
-      → home_in (chars bytes) (map (home_kept {Z = Z}) es) ≡ None
-  home-none bytes text es none =
-      home-seen bytes text es ∙ (Missing-position (λ k. bytes_eq bytes (string_bytes k)) es none).value
-
-  -- distinct keys are distinct names
-  pub names-distinct : (es : List (String Z × ℕ)) → IsDistinct string_eq (keys_of es) →
-      IsDistinct is_same (names_in (map (home_kept {Z = Z}) es))
-  unfolding IsDistinct
-  names-distinct [] distinct = tt
-  names-distinct (e ∷ es) distinct = (others es distinct.0, names-distinct es distinct.1)
-    where
-      others : (more : List (String Z × ℕ)) → AllByRecursion (λ k. string_eq e.0 k ≡ false) (keys_of more)
-          → AllByRecursion (λ name. is_same (chars (string_bytes e.0)) name
-          ≡ false) (names_in (map (home_kept {Z = Z}) more))
-      others [] all = tt
-      others (f ∷ more) all = (
-        sym (bytes_eq-chars (string_bytes e.0) (string_bytes f.0) (IsUtf8-string_bytes e.0)
-            (IsUtf8-string_bytes f.0)) ∙ all.0,
-        others more all.1,
-      )
-
--- a list and what is seen of each element, edited alike
-map-remove : {A B : Type 0} (f : A → B) (xs : List A) (i : ℕ) → map f (remove xs i) ≡ remove (map f xs) i
-map-remove f xs i = map-append f (take i xs) (drop (suc i) xs)
-    ∙ ap₂ (λ a b. a ++ b) (sym (take-map f i xs)) (sym (drop-map f (suc i) xs))
-
-map-insert : {A B : Type 0} (f : A → B) (xs : List A) (i : ℕ) (x : A) →
-    map f (insert xs i x) ≡ insert (map f xs) i (f x)
-map-insert f xs i x =
-    map-append f (take i xs) (x ∷ drop i xs) ∙ ap₂ (λ a b. a ++ f x ∷ b) (sym (take-map f i xs)) (sym (drop-map f i xs))
-
-pub homes-removed : {Z : Type 0} (old new : List (String Z × ℕ)) (homes : Homes) (at : ℕ) → map home_kept old ≡ homes →
-    new ≡ remove old at → map home_kept new ≡ remove homes at
-homes-removed old new homes at seen is =
-    ap (map home_kept) is ∙ map-remove home_kept old at ∙ ap (λ hs. remove hs at) seen
 
 -- ---- a name more
 
-absent : {Z : Type 0} (name : String Z) (bytes : List ℕ) (es : List (String Z × ℕ)) (homes : Homes) →
-    string_bytes name ≡ bytes → map home_kept es ≡ homes
-    → home_in (chars bytes) homes ≡ None → lookup (string_eq name) es ≡ None
-absent name bytes es homes spelled seen new =
-    sym (home-seen (string_bytes name) (IsUtf8-string_bytes name) es) ∙ ap (home_in (chars (string_bytes name))) seen
-    ∙ ap (λ b. home_in (chars b) homes) spelled ∙ new
+-- a list with one name more, among the others
+pub record HasMore (name : List ℕ) (old new : List (List ℕ)) : Type 0 where
+  pub front : List (List ℕ)
+  pub behind : List (List ℕ)
+  pub was : old ≡ front ++ behind
+  pub is : new ≡ front ++ name ∷ behind
 
-pub absent-index : {Z S : Type 0} (name : String Z) (bytes : List ℕ) (m : IndexMap (String Z) ℕ S) (homes : Homes)
-    (n : ℕ) → string_bytes name ≡ bytes → map home_kept m.entries ≡ homes
-    → home_in (chars bytes) homes ≡ None → ContainsKey string_eq m name → n < length m.entries
-absent-index name bytes m homes n spelled seen new there =
-    absurd (let none = absent name bytes m.entries homes spelled seen new in
-    true≢false (sym there ∙ ap Rattle.std.specs.Prelude.is_some none))
+all-more : (Good : List ℕ → Type 0) (front behind : List (List ℕ)) (name : List ℕ) →
+    AllByRecursion Good (front ++ behind) → Good name → AllByRecursion Good (front ++ name ∷ behind)
+all-more Good [] behind name all good = (good, all)
+all-more Good (first ∷ front) behind name all good = (all.0, all-more Good front behind name all.1 good)
 
--- the last is moved to an index
-last-moved : {A : Type 0} (xs : List A) (x : A) (last to : ℕ) → last ≡ length xs →
-    move_index (xs ++ x ∷ []) last to ≡ insert xs to x
-last-moved {A} xs x last to is =
-    ap (λ n. move_index (xs ++ x ∷ []) n to) is
-    ∙ ap (λ o. option_map_or (λ y. insert (remove (xs ++ x ∷ []) (length xs)) to y) o (xs ++ x ∷ [])) (at_end xs)
-    ∙ ap (λ ys. insert ys to x) (off_end xs)
-  where
-    at_end : (ys : List A) → slice_get (ys ++ x ∷ []) (length ys) ≡ Some x
-    at_end [] = refl
-    at_end (y ∷ ys) = at_end ys
+apart : (name : List ℕ) (names : List (List ℕ)) → is_among name names ≡ false →
+    AllByRecursion (λ other. is_same name other ≡ false) names
+apart name [] none = tt
+apart name (first ∷ names) none =
+    let parts = or_parts (is_same name first) (is_among name names) none in (parts.0, apart name names parts.1)
 
-    off_end : (ys : List A) → remove (ys ++ x ∷ []) (length ys) ≡ ys
-    off_end [] = refl
-    off_end (y ∷ ys) = ap (λ zs. y ∷ zs) (off_end ys)
+distinct-between : (front behind : List (List ℕ)) (name : List ℕ) → IsDistinct is_same (front ++ behind) →
+    is_among name (front ++ behind) ≡ false → IsDistinct is_same (front ++ name ∷ behind)
+unfolding IsDistinct
+distinct-between [] behind name distinct none = (apart name behind none, distinct)
+distinct-between (first ∷ front) behind name distinct none =
+    let parts = or_parts (is_same name first) (is_among name (front ++ behind)) none in (
+      all-more (λ other. is_same first other ≡ false) front behind name distinct.0
+          (bytes_eq-turned first name ∙ parts.0),
+      distinct-between front behind name distinct.1 parts.1,
+    )
 
-pub homes-put : {Z S : Type 0} (name : String Z) (bytes : List ℕ) (m : IndexMap (String Z) ℕ S)
-    (new : List (String Z × ℕ)) (homes : Homes) (index home : ℕ) → string_bytes name ≡ bytes
-    → map home_kept m.entries ≡ homes → home_in (chars bytes) homes ≡ None
-    → new ≡ move_index (insert_entry string_eq m.entries name home) (insert_index string_eq m name) index →
-    map home_kept new ≡ insert homes index (chars bytes, home)
-homes-put name bytes m new homes index home spelled seen fresh made =
-    let none = absent name bytes m.entries homes spelled seen fresh in
-    let last : insert_index string_eq m name
-    ≡ length m.entries = or_len-absent (string_eq name) m.entries
-    (absent_from_lookup (string_eq name) m.entries none) in
-    ap (map home_kept) (made ∙ ap (λ es. move_index es (insert_index string_eq m name) index)
-    (insert_entry-new string_eq m name home none)
-    ∙ last-moved m.entries (name, home) (insert_index string_eq m name) index last)
-    ∙ map-insert home_kept m.entries index (name, home)
-    ∙ ap₂ (λ hs b. insert hs index (chars b, home)) seen spelled
+module _ {name : List ℕ} {old new : List (List ℕ)} (more : HasMore name old new) where
+  pub distinct-more : IsDistinct is_same old → is_among name old ≡ false → IsDistinct is_same new
+  distinct-more distinct none =
+      subst (IsDistinct is_same) (sym more.is) (distinct-between more.front more.behind name
+      (subst (IsDistinct is_same) more.was distinct) (ap (is_among name) (sym more.was) ∙ none))
 
--- ---- names that go
+  pub count-more : length new ≡ length old + 1
+  count-more =
+      omega (
+        arith,
+        ap length more.was,
+        ap length more.is,
+        length-append more.front more.behind,
+        length-append more.front (name ∷ more.behind),
+      )
 
--- what stands before an index, and what is kept behind it
-abbrev pub kept_from : {A : Type 0} → (A → Bool) → ℕ → List A → List A
-kept_from keeps at xs = take at xs ++ filter keeps (drop at xs)
+-- a document more, of one widget
+pub added-windows : (documents : List Document) (new : Document) (name : List ℕ) → window_names new ≡ name ∷ [] →
+    HasMore name (windows_of documents) (windows_of (documents ++ new ∷ []))
+added-windows documents new name is = record {
+  front = windows_of documents;
+  behind = [];
+  was = sym (append-nil (windows_of documents));
+  is = flat_map-append window_names documents (new ∷ []) ∙ ap (λ names. windows_of documents ++ (names ++ [])) is;
+}
 
-pub kept-removed : {A : Type 0} (keeps : A → Bool) (xs : List A) (at : ℕ) (x : A) → slice_get xs at ≡ Some x →
-    keeps x ≡ false
-    → kept_from keeps at (remove xs at) ≡ kept_from keeps at xs
-kept-removed keeps [] at x is gone = absurd (none-some x is)
-kept-removed keeps (y ∷ xs) zero x is gone =
-    let same : y ≡ x = cc in
-    sym (ap (λ b. cond b (y ∷ filter keeps xs) (filter keeps xs)) (ap keeps same ∙ gone))
-kept-removed keeps (y ∷ xs) (suc at) x is gone = ap (λ ys. y ∷ ys) (kept-removed keeps xs at x is gone)
+-- a widget more of the document at a place
+pub peer-windows : (documents : List Document) (place : ℕ) (new : Document) (name : List ℕ) → place < length documents
+    → window_names new ≡ window_names (document_at documents place) ++ name ∷ []
+    → HasMore name (windows_of documents) (windows_of (slice_set documents place new))
+peer-windows [] place new name within is = absurd (omega (arith, within))
+peer-windows (document ∷ documents) zero new name within is = record {
+  front = window_names document;
+  behind = windows_of documents;
+  was = refl;
+  is = ap (λ names. names ++ windows_of documents) is
+      ∙ append_assoc (window_names document) (name ∷ []) (windows_of documents);
+}
+peer-windows (document ∷ documents) (suc place) new name within is =
+    let own = window_names document in
+    let rest = peer-windows documents place new name (omega (arith, within)) is in
+    record {
+      front = own ++ rest.front;
+      behind = rest.behind;
+      was = ap (λ names. own ++ names) rest.was ∙ sym (append_assoc own rest.front rest.behind);
+      is = ap (λ names. own ++ names) rest.is ∙ sym (append_assoc own rest.front (name ∷ rest.behind));
+    }
 
-kept-next : {A : Type 0} (keeps : A → Bool) (xs : List A) (at : ℕ) (x : A) → slice_get xs at ≡ Some x → keeps x ≡ true
-    → kept_from keeps (suc at) xs ≡ kept_from keeps at xs
-kept-next keeps [] at x is stays = absurd (none-some x is)
-kept-next keeps (y ∷ xs) zero x is stays =
-    let same : y ≡ x = cc in
-    sym (ap (λ b. cond b (y ∷ filter keeps xs) (filter keeps xs)) (ap keeps same ∙ stays))
-kept-next keeps (y ∷ xs) (suc at) x is stays = ap (λ ys. y ∷ ys) (kept-next keeps xs at x is stays)
+-- a document that keeps its widgets
+pub same-windows : (documents : List Document) (place : ℕ) (new : Document) →
+    window_names new ≡ window_names (document_at documents place)
+    → windows_of (slice_set documents place new) ≡ windows_of documents
+same-windows [] place new same = refl
+same-windows (document ∷ documents) zero new same = ap (λ names. names ++ windows_of documents) same
+same-windows (document ∷ documents) (suc place) new same =
+    ap (λ names. window_names document ++ names) (same-windows documents place new same)
 
-pub kept-more : {A : Type 0} (keeps : A → Bool) (xs : List A) (at : ℕ) (x : A) → slice_get xs at ≡ Some x →
-    keeps x ≡ true
-    → kept_from keeps (at + 1) xs ≡ kept_from keeps at xs
-kept-more keeps xs at x is stays =
-    let step : at + 1 ≡ suc at = omega arith in
-    ap (λ n. kept_from keeps n xs) step ∙ kept-next keeps xs at x is stays
+-- ---- how many they are
 
--- ---- places that are noted
-
-value-names : {Z : Type 0} (es : List (String Z × ℕ)) (at w : ℕ) →
-    names_in (map home_kept (set_value_at es at w)) ≡ names_in (map home_kept es)
-value-names [] at w = refl
-value-names (e ∷ es) zero w = refl
-value-names (e ∷ es) (suc at) w = ap (λ ns. chars (string_bytes e.0) ∷ ns) (value-names es at w)
-
-value-places : {Z : Type 0} (es : List (String Z × ℕ)) (at w : ℕ) →
-    places_in (map home_kept (set_value_at es at w)) ≡ slice_set (places_in (map home_kept es)) at w
-value-places [] at w = refl
-value-places (e ∷ es) zero w = refl
-value-places (e ∷ es) (suc at) w = ap (λ ps. e.1 ∷ ps) (value-places es at w)
-
-set-behind : {A : Type 0} (front : List A) (x y : A) (rest : List A) →
-    slice_set (front ++ x ∷ rest) (length front) y ≡ front ++ y ∷ rest
-set-behind [] x y rest = refl
-set-behind (z ∷ front) x y rest = ap (λ zs. z ∷ zs) (set-behind front x y rest)
-
-one-more : {A : Type 0} (n : ℕ) (x : A) (rest : List A) → replicate n x ++ x ∷ rest ≡ replicate (suc n) x ++ rest
-one-more zero x rest = refl
-one-more (suc n) x rest = ap (λ zs. x ∷ zs) (one-more n x rest)
-
--- some places in a row are one place
-abbrev pub filled : ℕ → ℕ → ℕ → List ℕ → List ℕ
-filled from index home places = take from places ++ replicate (index - from) home ++ drop index places
-
-filled-more : (from index home : ℕ) (places : List ℕ) → from ≤ index → index < length places
-    → slice_set (filled from index home places) index home ≡ filled from (index + 1) home places
-filled-more from index home places ordered within =
-    let front = take from places ++ replicate (index - from) home in
-    let here = get_or places index 0 in
-    let behind = drop (index + 1) places in
-    let long : length front ≡ index =
+-- the widgets of the first documents are no more than all
+pub front-windows : (count : ℕ) (documents : List Document) →
+    length (windows_of (take count documents)) ≤ length (windows_of documents)
+front-windows zero documents = omega arith
+front-windows (suc count) [] = omega arith
+front-windows (suc count) (document ∷ documents) =
     omega (
       arith,
-      length-append (take from places) (replicate (index - from) home),
-      length-replicate (index - from) home,
-      length-take from places,
-    ) in
-    let count : suc (index - from) ≡ index + 1 - from = omega (arith, ordered) in
-    ap (λ xs. slice_set (front ++ xs) index home) (drop_more places index 0 within)
-    ∙ ap (λ n. slice_set (front ++ here ∷ behind) n home) (sym long)
-    ∙ set-behind front here home behind
-    ∙ append_assoc (take from places) (replicate (index - from) home) (home ∷ behind)
-    ∙ ap (λ xs. take from places ++ xs) (one-more (index - from) home behind)
-    ∙ sym (append_assoc (take from places) (replicate (suc (index - from)) home) behind)
-    ∙ ap (λ n. take from places ++ replicate n home ++ behind) count
+      front-windows count documents,
+      length-append (window_names document) (windows_of (take count documents)),
+      length-append (window_names document) (windows_of documents),
+    )
 
-abbrev pub AreFilled : {Z : Type 0} → ℕ → ℕ → ℕ → List (String Z × ℕ) → List (String Z × ℕ) → Type 0
-AreFilled from index home old new =
-    (names_in (map home_kept new) ≡ names_in (map home_kept old))
-    × (places_in (map home_kept new) ≡ filled from index home (places_in (map home_kept old)))
+pub next-windows : (count : ℕ) (documents : List Document) → count < length documents
+    → length (windows_of (take (count + 1) documents))
+    ≡ length (windows_of (take count documents)) + length (window_names (document_at documents count))
+next-windows count documents within =
+    let front = take count documents in let next = document_at documents count in
+    ap (λ ds. length (windows_of ds)) (take_more documents count bare_document within)
+    ∙ ap length (flat_map-append window_names front (next ∷ []))
+    ∙ length-append (windows_of front) (window_names next ++ [])
+    ∙ ap (λ names. length (windows_of front) + length names) (append-nil (window_names next))
 
-pub fills-more : {Z : Type 0} (from index home : ℕ) (old new : List (String Z × ℕ)) → from ≤ index →
-    index < length old → AreFilled from index home old new
-    → AreFilled from (index + 1) home old (set_value_at new index home)
-fills-more from index home old new ordered within are = (
-  value-names new index home ∙ are.0,
-  value-places new index home ∙ ap (λ ps. slice_set ps index home) are.1
-      ∙ filled-more from index home (places_in (map home_kept old)) ordered
-      (omega (arith, within, length-map (map home_kept old) (λ home. home.1), length-map old home_kept)),
-)
+-- ---- widgets that go
+
+pub all-kept : {A : Type 0} (Good : A → Type 0) (keeps : A → Bool) (xs : List A) → AllByRecursion Good xs →
+    AllByRecursion Good (filter keeps xs)
+all-kept Good keeps [] all = tt
+all-kept Good keeps (x ∷ xs) all =
+    elim (keeps x) as (λ b. AllByRecursion Good (cond b (x ∷ filter keeps xs) (filter keeps xs))) [
+      | false ↦ all-kept Good keeps xs all.1
+      | true ↦ (all.0, all-kept Good keeps xs all.1)
+    ]
+
+pub distinct-kept : (keeps : List ℕ → Bool) (names : List (List ℕ)) → IsDistinct is_same names →
+    IsDistinct is_same (filter keeps names)
+unfolding IsDistinct
+distinct-kept keeps [] distinct = tt
+distinct-kept keeps (first ∷ names) distinct =
+    elim (keeps first) as (λ b. IsDistinct is_same (cond b (first ∷ filter keeps names) (filter keeps names))) [
+      | false ↦ distinct-kept keeps names distinct.1
+      | true ↦ (
+        all-kept (λ other. is_same first other ≡ false) keeps names distinct.0,
+        distinct-kept keeps names distinct.1,
+      )
+    ]
+
+-- documents that are left, each with the widgets that are kept
+pub names-left : {D : Type 0} (names : D → List (List ℕ)) (thin : D → D) (has : D → Bool) (keeps : List ℕ → Bool)
+    → ((d : D) → names (thin d) ≡ filter keeps (names d)) → ((d : D) → has d ≡ false → names d ≡ [])
+    → (ds : List D) → flat_map names (filter has (map thin ds)) ≡ filter keeps (flat_map names ds)
+names-left names thin has keeps left none [] = refl
+names-left names thin has keeps left none (d ∷ ds) =
+    let rest = names-left names thin has keeps left none ds in
+    elim (has (thin d)) as (λ b. has (thin d) ≡ b →
+    flat_map names (cond b (thin d ∷ filter has (map thin ds)) (filter has (map thin ds)))
+    ≡ filter keeps (names d ++ flat_map names ds)) [
+      | false ↦ λ gone. rest ∙ ap (λ xs. xs ++ filter keeps (flat_map names ds)) (sym (none (thin d) gone) ∙ left d)
+          ∙ sym (filter-append keeps (names d) (flat_map names ds))
+      | true ↦ λ stays. ap₂ (λ xs ys. xs ++ ys) (left d) rest ∙ sym (filter-append keeps (names d) (flat_map names ds))
+    ] refl
+
+-- what is filtered twice
+pub filter-twice : {A : Type 0} (keeps : A → Bool) (xs : List A) → filter keeps (filter keeps xs) ≡ filter keeps xs
+filter-twice keeps [] = refl
+filter-twice keeps (x ∷ xs) =
+    elim (keeps x) as (λ b. keeps x ≡ b → filter keeps (cond b (x ∷ filter keeps xs) (filter keeps xs))
+    ≡ cond b (x ∷ filter keeps xs) (filter keeps xs)) [
+      | false ↦ λ gone. filter-twice keeps xs
+      | true ↦ λ kept. ap (λ b. cond b (x ∷ filter keeps (filter keeps xs)) (filter keeps (filter keeps xs))) kept
+          ∙ ap (λ ys. x ∷ ys) (filter-twice keeps xs)
+    ] refl
+
+-- those that are changed are those that stay
+pub filter-changed : {A : Type 0} (keeps has : A → Bool) (one other : A → A) →
+    ((x : A) → keeps (one x) ≡ has (other x)) → ((x : A) → has (other x) ≡ true → one x ≡ other x)
+    → (xs : List A) → filter keeps (map one xs) ≡ filter has (map other xs)
+filter-changed keeps has one other same alike [] = refl
+filter-changed keeps has one other same alike (x ∷ xs) =
+    let rest = filter-changed keeps has one other same alike xs in
+    ap (λ b. cond b (one x ∷ filter keeps (map one xs)) (filter keeps (map one xs))) (same x)
+    ∙ elim (has (other x)) as (λ b. has (other x) ≡ b →
+    cond b (one x ∷ filter keeps (map one xs)) (filter keeps (map one xs))
+    ≡ cond b (other x ∷ filter has (map other xs)) (filter has (map other xs))) [
+      | false ↦ λ _. rest
+      | true ↦ λ stays. ap₂ (λ y ys. y ∷ ys) (alike x stays) rest
+    ] refl

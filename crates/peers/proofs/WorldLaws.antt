@@ -1,36 +1,19 @@
--- Documents in a world: where their widgets are found, as they come and go.
+-- Documents in a world, as their widgets come and go.
 use Rattle.peers.proofs.Common.{◌≡◌, ℕ, zero, suc, ◌+◌, ◌<◌, ◌≤◌, Bool, true, false, cond, not, List, [], ◌∷◌, ◌++◌}
-use Rattle.peers.proofs.Common.{length, map, get_or, filter, slice_set, option_map, Option, Some, None, is_some, take}
-use Rattle.peers.proofs.Common.{refl, sym, ap, subst, ◌∙◌, nat_lt, arith, AllByRecursion, length-append, get_or_read}
-use Rattle.peers.proofs.Common.{length-map, map-append, remove, OnErr, OnOk, nat_tests, among-append, is_among, is_same}
-use Rattle.peers.proofs.Common.{Settings, Document, Widget, window_names, IsWellFormedDocument, is_kept, keeps_some}
-use Rattle.peers.proofs.Common.{new_document, new_widget, thinned, with_peer, without_widgets, changed, create_named}
-use Rattle.peers.proofs.Common.{create_new, has_widgets, refuses, peer_with, Word, TooManyWidgets, WindowExists, Change}
-use Rattle.peers.proofs.Common.{answered, refused, AreLimits, LimitTable, IsWellFormed, Homes, home_in, homes_of}
-use Rattle.peers.proofs.Common.{names_in, World, all_windows, document_at, home, windows_of, insert_end, length-insert}
-use Rattle.peers.proofs.Common.{insert, append-nil, Ok, Err, Result, if◌then◌else◌, nat_le, or_parts, set-get_or}
-use Rattle.peers.proofs.Common.{Outcome}
+use Rattle.peers.proofs.Common.{length, map, get_or, filter, slice_set, refl, sym, ap, subst, ◌∙◌, nat_lt, arith}
+use Rattle.peers.proofs.Common.{AllByRecursion, length-append, get_or_read, length-map, map-append, OnErr, OnOk}
+use Rattle.peers.proofs.Common.{nat_tests, among-append, is_among, is_same, Settings, Document, Widget, window_names}
+use Rattle.peers.proofs.Common.{IsWellFormedDocument, is_kept, keeps_some, new_document, new_widget, thinned, with_peer}
+use Rattle.peers.proofs.Common.{without_widgets, changed, create_named, create_new, has_widgets, refuses, peer_with}
+use Rattle.peers.proofs.Common.{Word, TooManyWidgets, WindowExists, Change, answered, refused, AreLimits, LimitTable}
+use Rattle.peers.proofs.Common.{IsWellFormed, World, all_windows, document_at, windows_of, Ok, Err, Result}
+use Rattle.peers.proofs.Common.{if◌then◌else◌, nat_le, or_parts, set-get_or, Outcome}
 use Rattle.std.specs.List.{IsDistinct}
 use Rattle.std.proofs.lemmas.List.Sums.{count_by-le-length, length-filter}
-use Rattle.peers.proofs.HomeLaws.{filter-changed, filter-twice, first_with, found-some, front-count, homes-added}
-use Rattle.peers.proofs.HomeLaws.{homes-count, homes-found, homes-names, homes-peer, names-left, names-same, next-count}
+use Rattle.peers.proofs.WindowLaws.{added-windows, count-more, distinct-kept, distinct-more, filter-changed}
+use Rattle.peers.proofs.WindowLaws.{filter-twice, front-windows, names-left, next-windows, peer-windows}
 use Rattle.documents.proofs.ClearedLaws.{map-filter}
 use Rattle.documents.specs.Widgets as widgets
-
--- ---- a look-up
-
-home-first : (name : List ℕ) (documents : List Document) → home name documents ≡ first_with window_names name documents
-home-first name [] = refl
-home-first name (document ∷ documents) = ap (λ found.
-    cond (is_among name (window_names document)) (Some 0) (option_map suc found)) (home-first name documents)
-
-pub home-found : (name : List ℕ) (documents : List Document) → home_in name (homes_of documents) ≡ home name documents
-home-found name documents = homes-found window_names name 0 documents
-    ∙ from_none (first_with window_names name documents) ∙ sym (home-first name documents)
-  where
-    from_none : (found : Option ℕ) → option_map (λ k. 0 + k) found ≡ found
-    from_none None = refl
-    from_none (Some k) = let same : 0 + k ≡ k = omega arith in ap Some same
 
 -- ---- widgets of a document
 
@@ -101,16 +84,6 @@ all-at Good [] place all within = absurd (omega (arith, within))
 all-at Good (document ∷ documents) zero all within = all.0
 all-at Good (document ∷ documents) (suc place) all within = all-at Good documents place all.1 (omega (arith, within))
 
-pub all-kept : (Good : Document → Type 0) (keeps : Document → Bool) (documents : List Document) →
-    AllByRecursion Good documents → AllByRecursion Good (filter keeps documents)
-all-kept Good keeps [] all = tt
-all-kept Good keeps (document ∷ documents) all =
-    elim (keeps document) as (λ b. AllByRecursion Good
-    (cond b (document ∷ filter keeps documents) (filter keeps documents))) [
-      | false ↦ all-kept Good keeps documents all.1
-      | true ↦ (all.0, all-kept Good keeps documents all.1)
-    ]
-
 pub all-shown : (documents : List Document) →
     AllByRecursion (λ (document : Document). 0 < length document.widgets) (filter has_widgets documents)
 all-shown [] = tt
@@ -124,70 +97,6 @@ all-shown (document ∷ documents) =
   where
     shown : (widgets : List Widget) → nat_lt 0 (length widgets) ≡ true → 0 < length widgets
     shown widgets is = grind (arith, nat_tests, is)
-
--- ---- where widgets are found
-
-pub homes-windows : (documents : List Document) → names_in (homes_of documents) ≡ windows_of documents
-homes-windows documents = homes-names window_names 0 documents
-
-pub some-home : (name : List ℕ) (documents : List Document) (windows : Homes) → windows ≡ homes_of documents →
-    is_some (home_in name windows) ≡ is_among name (windows_of documents)
-some-home name documents windows found = found-some name windows ∙ ap (λ homes. is_among name (names_in homes)) found
-    ∙ ap (is_among name) (homes-windows documents)
-
-none-of : (found : Option ℕ) → is_some found ≡ false → found ≡ None
-none-of None is = refl
-none-of (Some k) is = absurd (let h : true ≡ false = is in cc)
-
-pub absent-home : (name : List ℕ) (documents : List Document) (windows : Homes) → windows ≡ homes_of documents →
-    is_among name (windows_of documents) ≡ false → home_in name windows ≡ None
-absent-home name documents windows found new =
-    none-of (home_in name windows) (some-home name documents windows found ∙ new)
-
--- how many they are
-pub windows-count : (documents : List Document) (windows : Homes) → windows ≡ homes_of documents →
-    length windows ≡ length (windows_of documents)
-windows-count documents windows found = ap length found ∙ homes-count window_names 0 documents
-
-pub added-homes : (name : List ℕ) (settings : Settings) (documents : List Document) (windows new : Homes)
-    (index place : ℕ) → windows ≡ homes_of documents → index ≡ length windows → place ≡ length documents
-    → new ≡ insert windows index (name, place) → new ≡ homes_of (documents ++ new_document name settings ∷ [])
-added-homes name settings documents windows new index place found end last made =
-    let here : place ≡ 0 + length documents = omega (arith, last) in
-    made ∙ ap (λ n. insert windows n (name, place)) end ∙ insert_end windows (name, place)
-    ∙ ap (λ homes. homes ++ (name, place) ∷ []) found
-    ∙ ap (λ p. homes_of documents ++ (name, p) ∷ []) here
-    ∙ sym (homes-added window_names 0 documents (new_document name settings))
-
--- a widget more of the document at a place
-pub peer-homes : (name : List ℕ) (settings : Settings) (documents : List Document) (windows new : Homes)
-    (index place : ℕ) → windows ≡ homes_of documents → place < length documents
-    → index ≡ length (windows_of (take (place + 1) documents)) → new ≡ insert windows index (name, place)
-    → new ≡ homes_of (slice_set documents place (with_peer name settings (document_at documents place)))
-peer-homes name settings documents windows new index place found within end made =
-    let old = document_at documents place in
-    let here : place ≡ 0 + place = omega arith in
-    made ∙ ap (λ homes. insert homes index (name, place)) found
-    ∙ ap (λ n. insert (homes_of documents) n (name, place)) end
-    ∙ ap (λ p. insert (homes_of documents) (length (windows_of (take (place + 1) documents))) (name, p)) here
-    ∙ sym (homes-peer window_names 0 place documents (with_peer name settings old) widgets.bare_document name within
-    (peer-names name settings old))
-
--- a document that keeps its widgets
-pub same-homes : (documents : List Document) (place : ℕ) (new : Document) →
-    window_names new ≡ window_names (document_at documents place)
-    → homes_of (slice_set documents place new) ≡ homes_of documents
-same-homes documents place new same = ap (Rattle.peers.specs.Windows.homes_from 0)
-    (names-same window_names place documents new widgets.bare_document same)
-
-pub front-windows : (count : ℕ) (documents : List Document) →
-    length (windows_of (take count documents)) ≤ length (windows_of documents)
-front-windows count documents = front-count window_names count documents
-
-pub next-windows : (count : ℕ) (documents : List Document) → count < length documents
-    → length (windows_of (take (count + 1) documents))
-    ≡ length (windows_of (take count documents)) + length (window_names (document_at documents count))
-next-windows count documents within = next-count window_names count documents widgets.bare_document within
 
 -- a document that is read
 pub read-is : (documents : List Document) (place : ℕ) (document : Document) → place < length documents →
@@ -229,21 +138,6 @@ own-count documents place within =
       front-windows (place + 1) documents,
       length-map (document_at documents place).widgets (λ (widget : Widget). widget.name),
     )
-
-pub remove-insert : {A : Type 0} (xs : List A) (i : ℕ) (x : A) → i ≤ length xs → remove (insert xs i x) i ≡ xs
-remove-insert xs zero x le = refl
-remove-insert [] (suc i) x le = absurd (omega (arith, le))
-remove-insert (y ∷ xs) (suc i) x le = ap (λ ys. y ∷ ys) (remove-insert xs i x (omega (arith, le)))
-
--- names that go, of the widgets as they are looked up
-pub left-homes : (names : List (List ℕ)) (documents : List Document) (windows : Homes) → windows ≡ homes_of documents
-    → names_in (filter (λ home. not (is_among home.0 names)) windows)
-    ≡ windows_of (filter has_widgets (map (without_widgets names) documents))
-left-homes names documents windows found =
-    map-filter (λ (home : List ℕ × ℕ). home.0) (λ name. not (is_among name names)) windows
-    ∙ ap (λ homes. filter (λ name. not (is_among name names)) (names_in homes)) found
-    ∙ ap (filter (λ name. not (is_among name names))) (homes-windows documents)
-    ∙ sym (left-windows names documents)
 
 -- ---- a name that is taken, and too many widgets
 
@@ -319,26 +213,14 @@ formed-none limits documents none bounds = subst (λ ds. IsWellFormed (with_all 
   widget_count = omega arith;
 })
 
-added-count : (documents : List Document) (new : Document) →
-    length (windows_of (documents ++ new ∷ [])) ≡ length (windows_of documents) + length (window_names new)
-added-count [] new = omega (arith, ap length (append-nil (window_names new)))
-added-count (document ∷ documents) new =
-    omega (
-      arith,
-      length-append (window_names document) (windows_of (documents ++ new ∷ [])),
-      length-append (window_names document) (windows_of documents),
-      added-count documents new,
-    )
-
 pub formed-added : {A E : Type 0} (limits : LimitTable) (name : List ℕ) (settings : Settings)
     (documents new : List Document) (result : Result A E) → IsWellFormed (with_all limits documents)
-    → nat_le limits.widgets (length (windows_of documents)) ≡ false →
+    → is_among name (windows_of documents) ≡ false → nat_le limits.widgets (length (windows_of documents)) ≡ false →
     OnOk result (new ≡ documents ++ new_document name settings ∷ []) → OnErr result (new ≡ documents)
-    → OnOk result (IsDistinct is_same (windows_of new)) → AllByRecursion (IsWellFormedDocument limits) new →
-    IsWellFormed (with_all limits new)
-formed-added limits name settings documents new (Ok value) formed few made kept distinct all =
+    → AllByRecursion (IsWellFormedDocument limits) new → IsWellFormed (with_all limits new)
+formed-added limits name settings documents new (Ok value) formed fresh few made kept all =
     let count = ap (λ ds. length (windows_of ds)) made in
-    let more = added-count documents (new_document name settings) in
+    let more = added-windows documents (new_document name settings) name refl in
     let room : length (windows_of documents) < limits.widgets = grind (arith, nat_tests, few) in
     record {
       limits = formed.limits;
@@ -346,10 +228,11 @@ formed-added limits name settings documents new (Ok value) formed few made kept 
           (all-added (λ (d : Document). 0 < length d.widgets) documents (new_document name settings) formed.shown
           (omega arith));
       documents = all;
-      widget_names = distinct;
-      widget_count = omega (arith, count, more, room);
+      widget_names = subst (λ ds. IsDistinct is_same (windows_of ds)) (sym made)
+          (distinct-more more formed.widget_names fresh);
+      widget_count = omega (arith, count, count-more more, room);
     }
-formed-added limits name settings documents new (Err error) formed few made kept distinct all =
+formed-added limits name settings documents new (Err error) formed fresh few made kept all =
     subst (λ ds. IsWellFormed (with_all limits ds)) (sym kept) formed
 
 fewer : {A : Type 0} (passes : A → Bool) (xs : List A) → length (filter passes xs) ≤ length xs
@@ -358,9 +241,8 @@ fewer passes xs = omega (arith, length-filter passes xs, count_by-le-length pass
 pub formed-left : {A E : Type 0} (limits : LimitTable) (names : List (List ℕ)) (documents new : List Document)
     (result : Result A E) → IsWellFormed (with_all limits documents)
     → OnOk result (new ≡ filter has_widgets (map (without_widgets names) documents)) → OnErr result (new ≡ documents)
-    → OnOk result (IsDistinct is_same (windows_of new)) → AllByRecursion (IsWellFormedDocument limits) new →
-    IsWellFormed (with_all limits new)
-formed-left limits names documents new (Ok value) formed made kept distinct all =
+    → AllByRecursion (IsWellFormedDocument limits) new → IsWellFormed (with_all limits new)
+formed-left limits names documents new (Ok value) formed made kept all =
     let windows = ap (λ ds. length (windows_of ds)) made in
     let left = ap length (left-windows names documents) in
     let less = fewer (λ name. not (is_among name names)) (windows_of documents) in
@@ -369,10 +251,12 @@ formed-left limits names documents new (Ok value) formed made kept distinct all 
       shown = subst (AllByRecursion (λ (d : Document). 0 < length d.widgets)) (sym made)
           (all-shown (map (without_widgets names) documents));
       documents = all;
-      widget_names = distinct;
+      widget_names = subst (IsDistinct is_same)
+          (sym (ap windows_of made ∙ left-windows names documents))
+          (distinct-kept (λ name. not (is_among name names)) (windows_of documents) formed.widget_names);
       widget_count = omega (arith, windows, left, less, formed.widget_count);
     }
-formed-left limits names documents new (Err error) formed made kept distinct all =
+formed-left limits names documents new (Err error) formed made kept all =
     subst (λ ds. IsWellFormed (with_all limits ds)) (sym kept) formed
 
 -- ---- a widget more of a document
@@ -388,37 +272,17 @@ pub changed-refused : (limits : LimitTable) (documents : List Document) (place :
 changed-refused limits documents place change same =
     ap (with_all limits) (ap (slice_set documents place) same ∙ set-same documents place)
 
-peer-count : (name : List ℕ) (settings : Settings) (documents : List Document) (place : ℕ) → place < length documents
-    → length (windows_of (slice_set documents place (with_peer name settings (document_at documents place))))
-    ≡ length (windows_of documents) + 1
-peer-count name settings documents place within =
-    let old = document_at documents place in
-    let new = slice_set documents place (with_peer name settings old) in
-    let index = length (windows_of (take (place + 1) documents)) in
-    let count = homes-count window_names 0 documents in
-    let low : index ≤ length (homes_of documents) = omega (arith, front-windows (place + 1) documents, count) in
-    let made = ap length (homes-peer window_names 0 place documents (with_peer name settings old) widgets.bare_document
-    name within (peer-names name settings old)) in
-    omega (
-      arith,
-      count,
-      homes-count window_names 0 new,
-      made,
-      length-insert (homes_of documents) index (name, 0 + place) low,
-    )
-
 pub formed-peer : {A E : Type 0} (limits : LimitTable) (name : List ℕ) (settings : Settings)
     (documents new : List Document) (place : ℕ) (result : Result A E)
-    → IsWellFormed (with_all limits documents) → place < length documents →
-    nat_le limits.widgets (length (windows_of documents)) ≡ false
+    → IsWellFormed (with_all limits documents) → place < length documents → is_among name (windows_of documents) ≡ false
+    → nat_le limits.widgets (length (windows_of documents)) ≡ false
     → OnOk result (new ≡ slice_set documents place (with_peer name settings (document_at documents place))) →
     OnErr result (new ≡ documents)
-    → OnOk result (IsDistinct is_same (windows_of new)) → AllByRecursion (IsWellFormedDocument limits) new →
-    IsWellFormed (with_all limits new)
-formed-peer limits name settings documents new place (Ok value) formed within few made kept distinct all =
+    → AllByRecursion (IsWellFormedDocument limits) new → IsWellFormed (with_all limits new)
+formed-peer limits name settings documents new place (Ok value) formed within fresh few made kept all =
     let old = document_at documents place in
     let count = ap (λ ds. length (windows_of ds)) made in
-    let more = peer-count name settings documents place within in
+    let more = peer-windows documents place (with_peer name settings old) name within (peer-names name settings old) in
     let room : length (windows_of documents) < limits.widgets = grind (arith, nat_tests, few) in
     let shown = length-append old.widgets (new_widget old name settings ∷ []) in
     record {
@@ -427,8 +291,9 @@ formed-peer limits name settings documents new place (Ok value) formed within fe
           (all-changed (λ (d : Document). 0 < length d.widgets) documents place (with_peer name settings old)
           formed.shown (omega (arith, shown)));
       documents = all;
-      widget_names = distinct;
-      widget_count = omega (arith, count, more, room);
+      widget_names = subst (λ ds. IsDistinct is_same (windows_of ds)) (sym made)
+          (distinct-more more formed.widget_names fresh);
+      widget_count = omega (arith, count, count-more more, room);
     }
-formed-peer limits name settings documents new place (Err error) formed within few made kept distinct all =
+formed-peer limits name settings documents new place (Err error) formed within fresh few made kept all =
     subst (λ ds. IsWellFormed (with_all limits ds)) (sym kept) formed

@@ -9,10 +9,14 @@ use Rattle.documents.specs.WellFormed.{window_names}
 abbrev pub Homes : Type 0
 Homes = List (List ℕ × ℕ)
 
+-- those of the widgets of one document
+abbrev pub homes_at : ℕ → List (List ℕ) → Homes
+homes_at place names = map (λ name. (name, place)) names
+
 -- those of the widgets of documents, each a list of its names, of which the first stands at a place
 abbrev pub homes_from : ℕ → List (List (List ℕ)) → Homes
 homes_from place [] = []
-homes_from place (names ∷ others) = map (λ name. (name, place)) names ++ homes_from (suc place) others
+homes_from place (names ∷ others) = homes_at place names ++ homes_from (suc place) others
 
 -- those of all widgets, in the order of their documents
 abbrev pub homes_of : List Document → Homes
@@ -22,13 +26,6 @@ homes_of documents = homes_from 0 (map window_names documents)
 abbrev pub home_in : List ℕ → Homes → Option ℕ
 home_in name [] = None
 home_in name (home ∷ homes) = if is_same name home.0 then Some home.1 else home_in name homes
-
--- names, and places
-abbrev pub names_in : Homes → List (List ℕ)
-names_in homes = map (λ home. home.0) homes
-
-abbrev pub places_in : Homes → List ℕ
-places_in homes = map (λ home. home.1) homes
 
 -- how they are kept
 abbrev pub home_kept : {Z : Type 0} → String Z × ℕ → List ℕ × ℕ

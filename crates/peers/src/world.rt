@@ -1,3 +1,5 @@
+//! A session: its limits and documents, and one command by its words.
+
 ghost use Rattle.std.specs.Prelude.{◌≡◌, ◌≢◌, ◌<◌, Some, Ok, Err, [], false, true, nat_le, length, chars, ◌+◌, ◌≤◌};
 ghost use Rattle.std.specs.Prelude.{option_map, IfOk};
 ghost use Rattle.text_model.specs.Lines.{lines};
@@ -9,7 +11,7 @@ ghost use Rattle.documents.specs.Documents.{characters, widget_at};
 ghost use Rattle.documents.specs.Kept.{is_window_name};
 ghost use Rattle.peers.specs.History.{can_redo_by, can_undo_by};
 ghost use Rattle.peers.specs.Step.{Makes, changed, create_named, create, create_shaped, destroy, destroy_shaped};
-ghost use Rattle.peers.specs.Step.{on_home, on_widget, seat_step, step, are_frugal};
+ghost use Rattle.peers.specs.Step.{on_widget, seat_step, step, are_frugal};
 ghost use Rattle.peers.specs.Commands.{is_frugal, is_frugal_reading};
 ghost use Rattle.peers.specs.Concerned.{homes_asked, text_of_words};
 ghost use Rattle.peers.specs.Widgets.{peer_create, peer_with};
@@ -43,12 +45,10 @@ pub struct World<S: TextStore> {
 }
 
 impl<S: TextStore> Model for World<S> {
-    ghost use Rattle.std.specs.Prelude.{◌≡◌};
     ghost use Rattle.std.specs.Coded.{codes};
     ghost use Rattle.std.specs.FinSet as set;
     ghost use Rattle.text_model.specs.contracts.places.Place as place;
     ghost use Rattle.documents.specs.Keys.{key_cmp, key_code};
-    ghost use Rattle.peers.specs.Windows.{homes_of};
     ghost use Rattle.peers.specs.World.{World as WorldState};
     ghost use Rattle.peers.specs.WellFormed.{IsWellFormed};
 
@@ -58,8 +58,7 @@ impl<S: TextStore> Model for World<S> {
 
     ghost view = { λ w. record { limits = w.limits; documents = w.documents.list.items } };
 
-    ghost invariant = { λ w. IsWellFormed (record { limits = w.limits; documents = w.documents.list.items })
-        × (w.documents.windows ≡ homes_of w.documents.list.items) };
+    ghost invariant = { λ w. IsWellFormed (record { limits = w.limits; documents = w.documents.list.items }) };
 }
 
 impl<S: TextStore> World<S> {
@@ -78,16 +77,17 @@ impl<S: TextStore> World<S> {
 
     /// Whether a widget of any document has this name.
     fn has_widget(&self, name: &str) -> bool
-        ensures { result ≡ is_among (chars name.now) (all_windows self.now) }
+        ensures value { result ≡ is_among (chars name.now) (all_windows self.now) }
+        ensures well_formed { IsWellFormed self.now }
     {
-        self.documents.windows.home(name).is_some()
+        self.documents.find(name).is_some()
     }
 
     /// Whether there are as many widgets, of all documents, as there may be.
     fn is_full(&self) -> bool
         ensures { result ≡ nat_le self.now.limits.widgets (length (all_windows self.now)) }
     {
-        self.documents.windows.len() >= self.limits.widgets() as usize
+        self.documents.widget_count() >= self.limits.widgets() as usize
     }
 
     /// Makes a widget of a name on a document of its own, with options.
@@ -97,8 +97,6 @@ impl<S: TextStore> World<S> {
         requires ordered { is_behind settings.start settings.end ≡ false }
         ensures { Makes self.old self.new result (create_named self.old (chars name.now) settings) }
     {
-        // Read first, so that every return knows that the world is well formed.
-        let _documents = &self.documents;
         if self.has_widget(name) {
             return Err(Fault::WindowExists(1));
         }
@@ -111,11 +109,10 @@ impl<S: TextStore> World<S> {
 
     /// `text W ?option value ..?` (text(n), "text").
     fn create(&mut self, arguments: &[String]) -> Result<Answer, Fault>
-        requires { 2 + length arguments.now ≤ usize.MAX }
+        requires well_formed { IsWellFormed self.old }
+        requires near { 2 + length arguments.now ≤ usize.MAX }
         ensures { Makes self.old self.new result (create self.old (texts_of arguments.now)) }
     {
-        // Read first, so that every return knows that the world is well formed.
-        let _documents = &self.documents;
         let [name, options @ ..] = arguments else {
             return Err(Fault::WrongArguments);
         };
@@ -128,16 +125,13 @@ impl<S: TextStore> World<S> {
 
     /// `text W ?option value ..?`, of all its words.
     fn create_shaped(&mut self, words: &[String]) -> Result<Answer, Fault>
-        requires { 0 < length words.now }
+        requires well_formed { IsWellFormed self.old }
+        requires words { 0 < length words.now }
         ensures { Makes self.old self.new result
             (create_shaped self.old (texts_of words.now) (reading (texts_of words.now))) }
     {
-        // Read first, so that every return knows that the world is well formed.
-        let _documents = &self.documents;
-        match shape(words) {
-            Err(fault) => Err(Fault::of_shape(fault)),
-            Ok(shape) => self.create(&words[shape.arguments..]),
-        }
+        let shape = shape(words).map_err(Fault::of_shape)?;
+        self.create(&words[shape.arguments..])
     }
 
     /// Returns the marks of the widgets of these names, where they are asked for.
@@ -172,7 +166,8 @@ impl<S: TextStore> World<S> {
 
     /// `destroy ?W ..?`, of all its words.
     fn destroy_shaped(&mut self, words: &[String], marks: bool) -> Result<Told, Fault>
-        requires { 0 < length words.now }
+        requires well_formed { IsWellFormed self.old }
+        requires words { 0 < length words.now }
         ensures makes { Makes self.old self.new (answer_of result)
             (destroy_shaped self.old (texts_of words.now) (reading (texts_of words.now))) }
         ensures edit { IfOk result (λ told. told.edit ≡ no_edit) }
@@ -181,12 +176,8 @@ impl<S: TextStore> World<S> {
             told.marks) }
         ensures unasked { marks ≡ false → IfOk result (λ told. told.marks ≡ []) }
     {
-        // Read first, so that every return knows that the world is well formed.
-        let _documents = &self.documents;
-        match shape(words) {
-            Err(fault) => Err(Fault::of_shape(fault)),
-            Ok(shape) => self.destroy(&words[shape.arguments..], marks),
-        }
+        let shape = shape(words).map_err(Fault::of_shape)?;
+        self.destroy(&words[shape.arguments..], marks)
     }
 
     /// Makes a further widget of the document at a place, of the name that is the word at a position, with options.
@@ -205,8 +196,6 @@ impl<S: TextStore> World<S> {
             Makes self.old self.new result (changed self.old place
             (peer_with self.old.limits (all_windows self.old) document position (chars name.now) settings)) }
     {
-        // Read first, so that every return knows that the world is well formed.
-        let _documents = &self.documents;
         if self.has_widget(name) {
             return Err(Fault::WindowExists(position));
         }
@@ -315,39 +304,6 @@ impl<S: TextStore> World<S> {
         })
     }
 
-    /// A command of the widget of a name, which shows the document at a place, of all its words, which have this shape.
-    /// It reports what it changed of what the caller follows.
-    fn on_document(
-        &mut self,
-        place: usize,
-        name: &str,
-        shape: Shape,
-        words: &[String],
-        follows: Follows,
-    ) -> Result<Told, Fault>
-        requires home { home (chars name.now) self.old.documents ≡ Some place }
-        requires shape { reading (texts_of words.now) ≡ Ok shape }
-        requires within { shape.arguments + shape.count ≤ length words.now }
-        requires ordered { shape.switches ≤ shape.arguments }
-        ensures makes { Makes self.old self.new (answer_of result)
-            (on_home self.old (chars name.now) (texts_of words.now) (Some place)) }
-        ensures tells { follows.text ≡ true → IfOk result (λ told. TellsAt self.old self.new (Some place)
-            (on_home self.old (chars name.now) (texts_of words.now) (Some place)).edits told.edit) }
-        ensures marks { follows.marks ≡ true → IfOk result (λ told.
-            MarksTellAt self.old self.new (Some place) told.edit.changes told.marks) }
-        ensures unasked { follows.marks ≡ false → IfOk result (λ told. told.marks ≡ []) }
-        ensures frugal { is_frugal shape.command ≡ true → result ≢ Err Fault.Memory }
-    {
-        let Some(seat) = self.documents.list[place].find_widget(name) else {
-            unreachable!()
-        };
-        if follows.marks {
-            self.on_seat_with_marks(place, seat, shape, words)
-        } else {
-            self.on_seat(place, seat, shape, words, follows.text)
-        }
-    }
-
     /// A command of the widget of a name, of all its words. It reports what it changed of what the caller follows.
     fn on_widget(&mut self, name: &str, words: &[String], follows: Follows) -> Result<Told, Fault>
         requires { 0 < length words.now }
@@ -361,12 +317,14 @@ impl<S: TextStore> World<S> {
         ensures unasked { follows.marks ≡ false → IfOk result (λ told. told.marks ≡ []) }
         ensures frugal { is_frugal_reading (reading (texts_of words.now)) ≡ true → result ≢ Err Fault.Memory }
     {
-        let Some(place) = self.documents.windows.home(name) else {
+        let Some((place, seat)) = self.documents.find(name) else {
             return Err(Fault::InvalidCommandName(0));
         };
-        match shape(words) {
-            Err(fault) => Err(Fault::of_shape(fault)),
-            Ok(shape) => self.on_document(place, name, shape, words, follows),
+        let shape = shape(words).map_err(Fault::of_shape)?;
+        if follows.marks {
+            self.on_seat_with_marks(place, seat, shape, words)
+        } else {
+            self.on_seat(place, seat, shape, words, follows.text)
         }
     }
 
@@ -375,7 +333,7 @@ impl<S: TextStore> World<S> {
         ensures { option_map (λ document. document.now) result
             ≡ option_map (document_at self.now.documents) (home (chars name.now) self.now.documents) }
     {
-        let place = self.documents.windows.home(name)?;
+        let (place, _) = self.documents.find(name)?;
         Some(&self.documents.list[place])
     }
 
@@ -400,7 +358,8 @@ impl<S: TextStore> World<S> {
     pub fn home(&self, name: &str) -> Option<usize>
         ensures { result ≡ home (chars name.now) self.now.documents }
     {
-        self.documents.windows.home(name)
+        let (place, _) = self.documents.find(name)?;
+        Some(place)
     }
 
     /// The place of the document that a command's widget shows; None where its first word names no widget.
@@ -413,8 +372,8 @@ impl<S: TextStore> World<S> {
         }
     }
 
-    /// Where each widget is, if these are the words of `destroy` and it is asked for; else nothing. It is a copy, so
-    /// that the report of the command can say which widgets showed one text.
+    /// Returns where each widget is, if these are the words of `destroy` and it is asked for; else nothing. By this the
+    /// report of the command says which widgets showed one text.
     pub fn homes_before(&self, words: &[String], asked: bool) -> Result<Windows, AllocError>
         ensures { IfOk result (λ homes. homes ≡ homes_asked asked self.now.documents (texts_of words.now)) }
     {
@@ -423,7 +382,7 @@ impl<S: TextStore> World<S> {
             return Ok(Windows::new(alloc));
         }
         match words {
-            [name, ..] if is_word(name.as_str(), "destroy") => self.documents.windows.copy(alloc),
+            [name, ..] if is_word(name.as_str(), "destroy") => self.documents.homes(),
             _ => Ok(Windows::new(alloc)),
         }
     }

@@ -1,21 +1,8 @@
-use Rattle.peers.proofs.Common.{drop, filter, length, map, sym, ap, subst, ◌∙◌, arith, AllByRecursion, IsDistinct}
-use Rattle.peers.proofs.Common.{take_at, texts_of, is_same, IsWellFormedDocument, keeps_some, thinned, names_in}
-use Rattle.peers.proofs.Common.{windows_of}
-use Rattle.peers.proofs.WorldLaws.{all-kept, homes-windows, left-documents, left-homes}
+use Rattle.peers.proofs.Common.{drop, filter, length, map, sym, ap, subst, ◌∙◌, arith, AllByRecursion, take_at}
+use Rattle.peers.proofs.Common.{texts_of, IsWellFormedDocument, keeps_some, thinned}
+use Rattle.peers.proofs.WindowLaws.{all-kept}
+use Rattle.peers.proofs.WorldLaws.{left-documents}
 use Rattle.peers.proofs.document_list.Documents.drop_widgets.Goals as goal
-
-pub note_places-requires : goal.note_places-requires
-note_places-requires g c =
-    let names = texts_of c.args.names.now in
-    let documents = c.args.self.now.list.items in
-    let left = c.drop_empty.ensures ∙ ap (filter (keeps_some names))
-    (take_at c.drop_widgets.new.documents (drop (length c.drop_widgets.new.documents) documents)
-    c.args.self.now.list.len
-    (omega (arith, c.drop_widgets.auto.documents, ap length c.deref_mut.ensures.value, c.args.self.now.list.ok.0))
-    ∙ c.in_ok-drop_widgets.ensures.ok ∙ ap (map (thinned names)) c.deref_mut.ensures.value)
-    ∙ left-documents names documents in
-    ap names_in c.take_names.ensures ∙ left-homes names documents c.args.self.now.windows c.requires.found
-    ∙ ap windows_of (sym left ∙ sym c.deref.ensures.value)
 
 pub returns-clause-ok : goal.returns-clause-ok
 returns-clause-ok g c =
@@ -27,11 +14,6 @@ returns-clause-ok g c =
     (omega (arith, c.drop_widgets.auto.documents, ap length c.deref_mut.ensures.value, c.args.self.now.list.ok.0))
     ∙ c.in_ok-drop_widgets.ensures.ok ∙ ap (map (thinned names)) c.deref_mut.ensures.value)
     ∙ left-documents names c.args.self.now.list.items
-
-pub returns-clause-distinct : goal.returns-clause-distinct
-returns-clause-distinct g c =
-    subst (IsDistinct is_same) (ap names_in c.note_places.ensures ∙ homes-windows c.deref.result.now
-    ∙ ap windows_of c.deref.ensures.value) c.len-count.ensures.distinct
 
 pub returns-clause-well_formed : goal.returns-clause-well_formed
 returns-clause-well_formed g c = λ limits all.

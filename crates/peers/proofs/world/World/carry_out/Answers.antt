@@ -39,7 +39,7 @@ create-tells : (g : _) (c : After-create_shaped g) → IfOk (answered c.create_s
     told.marks)
 create-tells g c =
     unnamed c.args.self.now c.create_shaped.new.self c.args.words.now c.name-item.result c.create_shaped.result
-    (subst IsWellFormed c.self.view_is c.self.invariant.0) c.in-len1-up.len_at_least c.name-item.is
+    (subst IsWellFormed c.self.view_is c.self.invariant) c.in-len1-up.len_at_least c.name-item.is
     (text-none (chars (string_bytes c.name-item.result)) (create-word g c))
     (text-other (chars (string_bytes c.name-item.result)) (create-word g c))
 
@@ -96,7 +96,7 @@ pub returns-then-is_word-2-clause-tells : goal.returns-then-is_word-2-clause-tel
 returns-then-is_word-2-clause-tells g c = λ _.
     destroyed c.args.self.now c.destroy_shaped.new.self c.args.words.now c.name-item.result c.in-len1-up.len_at_least
     c.name-item.is (destroy-word g (goal.at.returns-then-is_word-2-clause-tells g c).After-destroy_shaped).1
-    (subst IsWellFormed c.self.view_is c.self.invariant.0) c.destroy_shaped.result c.destroy_shaped.ensures.edit
+    (subst IsWellFormed c.self.view_is c.self.invariant) c.destroy_shaped.result c.destroy_shaped.ensures.edit
 
 pub returns-then-is_word-2-clause-marks : goal.returns-then-is_word-2-clause-marks
 returns-then-is_word-2-clause-marks g c = λ follows.

@@ -1,11 +1,35 @@
-use Rattle.peers.proofs.Common.{◌≡◌, ◌+◌, ◌<◌, length, true, sym, ap, subst, ◌∙◌, chars, texts_of, Document, widget_at}
-use Rattle.peers.proofs.Common.{is_window_name, settings_given, Makes, changed, IsWellFormed, peer_settings, World}
-use Rattle.peers.proofs.Common.{all_windows, document_at, peer_create}
+use Rattle.peers.proofs.Common.{◌≡◌, ◌+◌, ◌<◌, length, true, false, sym, ap, subst, ◌∙◌, chars, texts_of, Document}
+use Rattle.peers.proofs.Common.{widget_at, is_window_name, settings_given, Makes, changed, IsWellFormed, peer_settings}
+use Rattle.peers.proofs.Common.{World, all_windows, document_at, peer_create, InvalidCommandName}
 use Rattle.peers.proofs.MakesLaws.{changed-refuses, makes-refused}
-use Rattle.peers.proofs.PeerLaws.{bad-peer, good-peer}
+use Rattle.peers.proofs.PeerLaws.{bad-peer, good-peer, no-peer, unnamed-peer}
 use Rattle.peers.proofs.PromiseLaws.{faulted}
 use Rattle.peers.proofs.WorldLaws.{read-is}
 use Rattle.peers.proofs.world.World.create_peer.Goals as goal
+
+pub returns-in_err-name : goal.returns-in_err-name
+returns-in_err-name g c =
+    let world = c.args.self.now in let document = document_at world.documents c.args.place in
+    let fault = c.in_err-name.field-0.0 in
+    let change = no-peer world.limits (all_windows world) document (widget_at document c.args.seat) c.args.position
+    (texts_of c.args.arguments.now) fault c.in_err-name.ensures.err in
+    let outcome = changed world c.args.place (peer_create world.limits (all_windows world) document
+    (widget_at document c.args.seat) c.args.position (texts_of c.args.arguments.now)) in
+    subst (λ result. Makes world world result outcome)
+    (sym (faulted c.from_residual.result fault c.from_residual.ensures))
+    (makes-refused world fault outcome (subst IsWellFormed c.self.view_is c.self.invariant)
+    (ap (changed world c.args.place) change ∙ changed-refuses world c.args.place fault))
+
+pub returns-then-not-is_window_name : goal.returns-then-not-is_window_name
+returns-then-not-is_window_name g c =
+    let world = c.args.self.now in let document = document_at world.documents c.args.place in
+    let unnamed : is_window_name (chars c.in_ok-name.name.now) ≡ false =
+    sym c.is_window_name.ensures ∙ c.if-not-is_window_name.true in
+    let change = unnamed-peer world.limits (all_windows world) document (widget_at document c.args.seat) c.args.position
+    (texts_of c.args.arguments.now) (chars c.in_ok-name.name.now) (texts_of c.in_ok-name.words.now)
+    c.in_ok-name.ensures.ok unnamed in
+    makes-refused world (InvalidCommandName c.args.position) _ (subst IsWellFormed c.self.view_is c.self.invariant)
+    (ap (changed world c.args.place) change ∙ changed-refuses world c.args.place (InvalidCommandName c.args.position))
 
 pub returns-in_err-settings : goal.returns-in_err-settings
 returns-in_err-settings g c =
@@ -25,7 +49,7 @@ returns-in_err-settings g c =
     (widget_at document c.args.seat) c.args.position (texts_of c.args.arguments.now)) in
     subst (λ result. Makes world world result outcome) (sym (faulted c.from_residual-in_err-settings.result
     c.in_err-settings.field-0.0 c.from_residual-in_err-settings.ensures))
-    (makes-refused world c.in_err-settings.field-0.0 outcome (subst IsWellFormed c.self.view_is c.self.invariant.0)
+    (makes-refused world c.in_err-settings.field-0.0 outcome (subst IsWellFormed c.self.view_is c.self.invariant)
     (ap (changed world c.args.place) change ∙ changed-refuses world c.args.place c.in_err-settings.field-0.0))
 
 pub returns : goal.returns

@@ -8,4 +8,4 @@ returns-then-marks-clause-told g c = λ _.
     let documents = c.self.inside.documents.list.items in
     subst (λ (w : World). IfOk c.list_dropped.result (λ marks. TellsDropped names w.documents marks)) c.self.view_is
     (IfOk-weaker c.list_dropped.result _ _ (λ marks is. subst (TellsDropped names documents) (sym is)
-    (dropped-all c.self.inside.limits names documents c.self.invariant.0.documents)) c.list_dropped.ensures)
+    (dropped-all c.self.inside.limits names documents c.self.invariant.documents)) c.list_dropped.ensures)

@@ -5,7 +5,7 @@ use Rattle.peers.proofs.Common.{AreTold, Change, Outcome, PeerCreate}
 use Rattle.peers.specs.Told.{answered}
 use Rattle.peers.proofs.ArgumentLaws.{arguments-part}
 use Rattle.peers.proofs.FrontLaws.{set-at}
-use Rattle.peers.proofs.HomeStepLaws.{does-form, does-homes, does-refuse, does-world, peer-command}
+use Rattle.peers.proofs.HomeStepLaws.{does-form, does-refuse, does-world, peer-command}
 use Rattle.peers.proofs.ToldLaws.{answer-answered, answered-unmarked}
 use Rattle.peers.proofs.ToldStepLaws.{peer-tells}
 use Rattle.peers.proofs.WorldLaws.{all-at, read-is, with_all}
@@ -27,7 +27,7 @@ command-requires g c =
           (subst (λ (w : World). c.args.seat < length (document_at w.documents c.args.place).widgets)
           (sym c.self-in_default.view_is) c.requires.shown);
       formed = subst (IsWellFormedDocument limits) (sym lent)
-          (all-at (IsWellFormedDocument limits) documents c.args.place c.self-in_default.invariant.0.documents within);
+          (all-at (IsWellFormedDocument limits) documents c.args.place c.self-in_default.invariant.documents within);
       shape = c.requires.shape;
       within = c.requires.within;
       ordered = c.requires.ordered;
@@ -50,10 +50,8 @@ pub invariant_of-self : goal.invariant_of-self
 invariant_of-self g c =
     let documents = c.self-in_default.inside.documents.list.items in
     let within = subst (λ (w : World). c.args.place < length w.documents) (sym c.self-in_default.view_is) c.requires.place in
-    let done = does g (goal.at.invariant_of-self g c).After-command within in (
-      does-form documents c.args.place done c.self-in_default.invariant.0 within,
-      c.self-in_default.invariant.1 ∙ sym (does-homes documents c.args.place done),
-    )
+    let done = does g (goal.at.invariant_of-self g c).After-command within in
+    does-form documents c.args.place done c.self-in_default.invariant within
 
 -- a peer that is made, as a step of the command's words
 made : (g : _) (c : After-create_peer-made g) → c.args.shape.command ≡ PeerCreate
@@ -137,7 +135,7 @@ returns-in_default g c =
             reply = done.reply;
             world = does-world documents c.args.place done;
             refused = does-refuse documents c.args.place done;
-            well_formed = does-form documents c.args.place done c.self-in_default.invariant.0 within;
+            well_formed = does-form documents c.args.place done c.self-in_default.invariant within;
           });
       tells = λ follows. subst (λ (w : World). IfOk c.command.result (λ told. TellsAt w after (Some c.args.place)
           (seat_step w c.args.place c.args.seat words).edits told.edit)) c.self-in_default.view_is (tells g at within follows);

@@ -14,7 +14,7 @@ returns-clause-marks g c =
     let world = c.args.self.now in let new = c.on_seat.new.self in let words = texts_of c.args.words.now in
     let told = c.in_ok-told.told in let marks = c.in_ok-marks.marks in
     let document = document_at world.documents place in
-    let formed : IsWellFormed world = subst IsWellFormed c.self.view_is c.self.invariant.0 in
+    let formed : IsWellFormed world = subst IsWellFormed c.self.view_is c.self.invariant in
     let there = all-at (IsWellFormedDocument world.limits) world.documents place formed.documents c.requires.place in
     let before = subst (λ (w : World). place < length w.documents) (sym c.self.view_is) c.requires.place in
     let lent : c.index.result.now ≡ document =
@@ -54,3 +54,18 @@ returns-clause-marks g c =
     (subst (λ (d : Document). AreCarried told.edit.changes document d) (sym found) but.carried)
     (subst (λ (d : Document). (key : MarkKey) → AreOthers key marks
     → mark_at d key ≡ mark_carried told.edit.changes document key) (sym found) but.others))
+
+pub index-requires-2 : goal.index-requires-2
+index-requires-2 g c =
+    let place = c.args.place in let world = c.args.self.now in let document = document_at world.documents place in
+    let told = c.in_ok-told.told in
+    let made = c.in_ok-told.ensures.makes.world (value≢memory (Ok told.answer) told.answer refl) in
+    let long = ap (λ (w : World). length w.documents) made in
+    let set = length-set world.documents place (command world.limits (all_windows world) document
+    (widget_at document c.args.seat) (texts_of c.args.words.now)).document in
+    let after = subst (λ (w : World). place < length w.documents) (sym c.self-2.view_is)
+    (let within : place < length c.on_seat.new.self.documents = omega (arith, c.requires.place, long, set) in within) in
+    omega (arith, after, c.self-2.inside.documents.list.ok.0)
+
+pub returns-clause-tells : goal.returns-clause-tells
+returns-clause-tells g c = c.in_ok-told.ensures.tells refl
