@@ -26,8 +26,9 @@ COMMANDS = {
 }
 ENTRY = "peers::world::World::call"
 SYMBOL = re.compile(r"^([0-9a-f]+) [tT] (\w+::.*)$")
-TYPES = re.compile(r"::<#[0-9a-f]+>")
-CLOSURE = re.compile(r"::closure.*$|::\{.*$")
+TYPES = re.compile(r"::<.*>$")
+# A closure has a name of its own after that of its function, and may be called as a function of a trait.
+CLOSURE = re.compile(r"::fn::(.*)::\w+(\+.*)?$")
 # What gdb runs: at each stop it notes the function, and how many of those that were entered haven't returned: above it
 # on the stack, the return address of each is where it was.
 TRACE = """
@@ -77,7 +78,7 @@ def functions_of(program):
     crates = build.read_crates(os.path.join(TOP, "crates.txt"))
     symbols = subprocess.run(["nm", program], capture_output=True, text=True, check=True).stdout.splitlines()
     found = [(int(match[1], 16), TYPES.sub("", match[2])) for match in map(SYMBOL.match, symbols) if match]
-    return [(address, CLOSURE.sub("", name)) for address, name in found if name.split("::")[0] in crates]
+    return [(address, CLOSURE.sub(r"::\1", name)) for address, name in found if name.split("::")[0] in crates]
 
 
 def calls_of(program, functions, commands, folder):
