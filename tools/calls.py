@@ -4,9 +4,9 @@
     python3 tools/unproved.py --no-inlining --out PROGRAM
     python3 tools/calls.py PROGRAM
 
-PROGRAM runs under gdb, with a breakpoint at each function of the crates of `crates.txt`. For each command of COMMANDS
-a line says how many different functions it calls, of how many crates, and how many of them are active at once at most.
-A function is counted from `World::call` on, once for all its types, and a closure with the function that it is in.
+PROGRAM runs under gdb, with a breakpoint at each function of the crates of `crates.txt`. Prints a line for each command
+of COMMANDS: the number of functions that it calls, the number of their crates, and the maximum number of calls that are
+active at once. Counting starts at `World::call`. A generic function counts once, a closure as the function around it.
 """
 
 import os
@@ -18,7 +18,7 @@ import tempfile
 import build
 
 TOP = os.path.dirname(os.path.dirname(os.path.abspath(__file__)))
-# Each command with those before it, which aren't counted.
+# Each command, after those that prepare for it.
 COMMANDS = {
     "insert": [b"text .t -undo 1", b".t insert end {a b c}", b".t insert 1.2 x"],
     "tag add": [b"text .t", b".t insert end {a b c}", b".t tag add t 1.0 1.2"],
@@ -27,10 +27,10 @@ COMMANDS = {
 ENTRY = "peers::world::World::call"
 SYMBOL = re.compile(r"^([0-9a-f]+) [tT] (\w+::.*)$")
 TYPES = re.compile(r"::<.*>$")
-# A closure has a name of its own after that of its function, and may be called as a function of a trait.
+# The name of a closure follows that of its function, and may end in that of a trait's function.
 CLOSURE = re.compile(r"::fn::(.*)::\w+(\+.*)?$")
-# What gdb runs: at each stop it notes the function, and how many of those that were entered haven't returned: above it
-# on the stack, the return address of each is where it was.
+# The script that gdb runs. At each breakpoint it records the function, and how many calls are active: those whose
+# return address is still where it was, above the new one on the stack.
 TRACE = """
 import gdb
 
@@ -74,7 +74,7 @@ print("CALLS", Entry.deepest, *sorted(Entry.seen))
 
 
 def functions_of(program):
-    """The project's functions of a program, with their addresses."""
+    """Returns the addresses and names of the project's functions in a program."""
     crates = build.read_crates(os.path.join(TOP, "crates.txt"))
     symbols = subprocess.run(["nm", program], capture_output=True, text=True, check=True).stdout.splitlines()
     found = [(int(match[1], 16), TYPES.sub("", match[2])) for match in map(SYMBOL.match, symbols) if match]
@@ -82,7 +82,7 @@ def functions_of(program):
 
 
 def calls_of(program, functions, commands, folder):
-    """How deep the calls of the last of some commands go, and the functions that it calls."""
+    """Returns how deep the calls of the last of some commands go, and the functions that it calls."""
     script, trace = os.path.join(folder, "script"), os.path.join(folder, "trace.py")
     with open(script, "wb") as file:
         file.write(b"\n".join(commands) + b"\n")
@@ -92,10 +92,10 @@ def calls_of(program, functions, commands, folder):
         ))
     words = ["gdb", "-nx", "-batch", "-x", trace, program]
     done = subprocess.run(words, capture_output=True, text=True, check=False)
-    told = next((line for line in done.stdout.splitlines() if line.startswith("CALLS ")), None)
-    if told is None:
+    found = next((line for line in done.stdout.splitlines() if line.startswith("CALLS ")), None)
+    if found is None:
         sys.exit(f"gdb traced nothing: {done.stderr[-2000:]}")
-    _, deepest, *names = told.split(" ")
+    _, deepest, *names = found.split(" ")
     return int(deepest), names
 
 

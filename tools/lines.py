@@ -3,9 +3,9 @@
 
     python3 tools/lines.py [NAME ..]
 
-Prints a row for each crate, or for each of these, and one for all of them. Blank lines and comments aren't counted. A
-line of `src` is one of the contracts where it brings a name in for them (`ghost use`) or is of a `requires`, an
-`ensures` or a `ghost` item, and one of code otherwise; tests that stand in `src` are code.
+Prints a row for each crate, or for each of those named, and a row for all of them. Blank lines and comments don't
+count. A line of `src` counts as a contract if it is part of a `ghost use`, a `requires`, an `ensures` or another
+`ghost` item, and otherwise as code, tests included.
 """
 
 import glob
