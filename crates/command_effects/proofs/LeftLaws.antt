@@ -1,9 +1,10 @@
 -- Tables from which names are taken out, one after the other.
 use Rattle.command_effects.proofs.Common.{map, ◌≡◌, ℕ, zero, suc, Bool, true, false, cond, not, ◌&&◌, List, [], ◌∷◌}
 use Rattle.command_effects.proofs.Common.{◌++◌, refl, sym, ap, ap₂, ◌∙◌, true≢false, bytes_eq, if◌then◌else◌, both_ways}
-use Rattle.command_effects.proofs.Common.{false_from_ne_true, or_right, list_any-append, bytes_eq-Decides, without}
-use Rattle.command_effects.proofs.Common.{deleted, Tag, is_named, names_of, sel, Mark, is_left, marks_left, stays}
-use Rattle.command_effects.proofs.Common.{tags_left, is_among, is_same, ◌||◌, Some, filter, slice_get}
+use Rattle.command_effects.proofs.Common.{list_any-append, bytes_eq-Decides, without, deleted, Tag, is_named, names_of}
+use Rattle.command_effects.proofs.Common.{sel, Mark, is_left, marks_left, stays, tags_left, is_among, is_same, ◌||◌}
+use Rattle.command_effects.proofs.Common.{Some, filter, slice_get}
+use Rattle.std.proofs.lemmas.Bool.{false_from_ne_true, or_right}
 use mathlib.Core.Bool.{and-true, or-false}
 use Rattle.name_list.specs.Names.{AreApart}
 use Rattle.mark_table.specs.SharedMarks.{is_named as mark_is_named, names_of as mark_names_of}

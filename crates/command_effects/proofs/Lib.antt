@@ -1,10 +1,9 @@
 pub mod Common
-pub mod CountLaws
-pub mod ExcessLaws
 pub mod LeftLaws
 pub mod ListingLaws
 pub mod MadeLaws
 pub mod PairLaws
+pub mod PieceLaws
 pub mod SettingLaws
 pub mod SlotLaws
 pub mod TakeLaws

@@ -1,13 +1,13 @@
 -- Tables of tags as tags are made.
 use Rattle.command_effects.proofs.Common.{◌≡◌, ℕ, suc, ◌+◌, ◌<◌, ◌≤◌, true, false, cond, List, [], ◌∷◌, ◌++◌, length}
 use Rattle.command_effects.proofs.Common.{take, refl, sym, ap, subst, ◌∙◌, arith, inl, inr, ◌⊎◌, String, chars}
-use Rattle.command_effects.proofs.Common.{string_bytes, get_or, IfSome, Option, None, Some, find, option_map, bytes_eq}
-use Rattle.command_effects.proofs.Common.{slice_get, ◌||◌, if◌then◌else◌, position_from, option_or, length-map}
-use Rattle.command_effects.proofs.Common.{map-append, append_assoc, append-nil, take_all, take-append-le}
-use Rattle.command_effects.proofs.Common.{take-append-drop, length-append, find-append, texts_of, none-some}
-use Rattle.command_effects.proofs.Common.{bytes_eq-Decides, Tag, Tags, names_of, slot_of, is_named, Pair, with_name}
-use Rattle.command_effects.proofs.Common.{with_names, listed_names, all_names, IsFront, is_among, is_same, drop}
-use Rattle.command_effects.proofs.Common.{take-take, take_more}
+use Rattle.command_effects.proofs.Common.{string_bytes, get_or, IfSome, Option, None, Some, find, bytes_eq, slice_get}
+use Rattle.command_effects.proofs.Common.{◌||◌, if◌then◌else◌, position_from, option_or, length-map, map-append}
+use Rattle.command_effects.proofs.Common.{append_assoc, append-nil, take_all, take-append-le, take-append-drop}
+use Rattle.command_effects.proofs.Common.{length-append, find-append, texts_of, none-some, bytes_eq-Decides, Tag, Tags}
+use Rattle.command_effects.proofs.Common.{names_of, slot_of, is_named, Pair, with_name, with_names, listed_names}
+use Rattle.command_effects.proofs.Common.{all_names, IsFront, is_among, is_same, drop, take-take, take_more}
+use Rattle.std.specs.Prelude.{option_map}
 
 -- an unknown name, and one that stands in a table, at a place
 abbrev pub IsUnknown : List ℕ → List Tag → ℕ → Type 0
@@ -120,19 +120,6 @@ with_names-longer names [] = omega arith
 with_names-longer names (name ∷ more) =
     omega (arith, with_name-longer names name, with_names-longer (with_name names name) more)
 
--- each name makes one tag at most
-with_name-within : (names : List (List ℕ)) (name : List ℕ) → length (with_name names name) ≤ length names + 1
-with_name-within names name =
-    elim (is_among name names) as (λ b. length (if b then names else names ++ name ∷ []) ≤ length names + 1) [
-      | true ↦ omega arith
-      | false ↦ omega (arith, length-append names (name ∷ []))
-    ]
-
-pub with_names-within : (names more : List (List ℕ)) → length (with_names names more) ≤ length names + length more
-with_names-within names [] = omega arith
-with_names-within names (name ∷ more) =
-    omega (arith, with_name-within names name, with_names-within (with_name names name) more)
-
 pub with_names-append : (names some more : List (List ℕ)) →
     with_names names (some ++ more) ≡ with_names (with_names names some) more
 with_names-append names [] more = refl
@@ -216,15 +203,6 @@ all_names-append [] more = refl
 all_names-append (pair ∷ pairs) more = ap (λ ns. listed_names pair.names ++ ns) (all_names-append pairs more)
     ∙ sym (append_assoc (listed_names pair.names) (all_names pairs) (all_names more))
 
--- the names of a list more are counted
-pub names-step : (pairs : List Pair) (at : ℕ) (pair : Pair) → at < length pairs → pair ≡ get_or pairs at pair
-    → length (all_names (take (at + 1) pairs)) ≡ length (all_names (take at pairs)) + length (listed_names pair.names)
-names-step pairs at pair within is =
-    ap (λ ps. length (all_names ps)) (take-more pairs at pair within is)
-    ∙ ap length (all_names-append (take at pairs) (pair ∷ []))
-    ∙ ap (λ ns. length (all_names (take at pairs) ++ ns)) (append-nil (listed_names pair.names))
-    ∙ length-append (all_names (take at pairs)) (listed_names pair.names)
-
 -- the names of a list more are made
 pub listed-push : (names : List (List ℕ)) (pairs : List Pair) (pair : Pair) →
     with_names (with_names names (all_names pairs)) (listed_names pair.names)
@@ -234,14 +212,6 @@ listed-push names pairs pair =
     ∙ ap (with_names names) (ap (λ ns. all_names pairs ++ ns) (sym (append-nil (listed_names pair.names)))
     ∙ sym (all_names-append pairs (pair ∷ [])))
 
-pub listed-step : (names : List (List ℕ)) (pairs : List Pair) (at : ℕ) (pair : Pair) → at < length pairs →
-    pair ≡ get_or pairs at pair
-    → with_names (with_names names (all_names (take at pairs))) (listed_names pair.names)
-    ≡ with_names names (all_names (take (at + 1) pairs))
-listed-step names pairs at pair within is =
-    listed-push names (take at pairs) pair
-    ∙ ap (λ ps. with_names names (all_names ps)) (sym (take-more pairs at pair within is))
-
 pub too_many_before : (names : List (List ℕ)) (pairs more : List Pair) (limit : ℕ) →
     limit < length (with_names names (all_names pairs)) → limit < length (with_names names (all_names (pairs ++ more)))
 too_many_before names pairs more limit many =
@@ -250,8 +220,3 @@ too_many_before names pairs more limit many =
     ap (with_names names) (all_names-append pairs more)
     ∙ with_names-append names (all_names pairs) (all_names more) in
     omega (arith, ap length split, with_names-longer (with_names names (all_names pairs)) (all_names more), many)
-
-pub too_many_listed : (names : List (List ℕ)) (pairs : List Pair) (at limit : ℕ) →
-    limit < length (with_names names (all_names (take at pairs))) → limit < length (with_names names (all_names pairs))
-too_many_listed names pairs at limit many = subst (λ ps. limit < length (with_names names (all_names ps)))
-    (take-append-drop at pairs) (too_many_before names (take at pairs) (drop at pairs) limit many)

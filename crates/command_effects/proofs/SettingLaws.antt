@@ -1,9 +1,10 @@
 -- Options with their values, which are taken by twos, and the words of lines.
 use Rattle.command_effects.proofs.Common.{◌≡◌, ℕ, ℤ, ◌+◌, ◌-◌, ◌<◌, ◌≤◌, List, [], ◌∷◌, length, drop, refl, sym, ap}
-use Rattle.command_effects.proofs.Common.{◌∙◌, arith, Option, None, Some, option_and_then, option_map, ok_or, Result}
-use Rattle.command_effects.proofs.Common.{Ok, Err, String, chars, string_bytes, take_rest, drop-map, length-map}
-use Rattle.command_effects.proofs.Common.{chars-nil, texts_of, Fault, BadInteger, with_value, line_numbered}
-use Rattle.command_effects.proofs.Common.{line_of_word, setting_read, settings_read, get_or, take}
+use Rattle.command_effects.proofs.Common.{◌∙◌, arith, Option, None, Some, option_and_then, ok_or, Result, Ok, Err}
+use Rattle.command_effects.proofs.Common.{String, chars, string_bytes, take_rest, drop-map, length-map, chars-nil}
+use Rattle.command_effects.proofs.Common.{texts_of, Fault, BadInteger, with_value, line_numbered, line_of_word}
+use Rattle.command_effects.proofs.Common.{setting_read, settings_read, get_or, take}
+use Rattle.std.specs.Prelude.{option_map}
 use Rattle.command_table.specs.Numbers.{integer_of}
 use Rattle.command_effects.specs.declared.settings.Settings.{Settings}
 use Rattle.command_effects.proofs.PairLaws.{word_or}

@@ -1,6 +1,6 @@
 -- Tag lists and pairs of a text and a tag list.
 use Rattle.std.specs.Prelude.{ℕ, ◌+◌, List, [], ◌∷◌, ◌++◌, length, sum_by, Option, None, Some, Result, Ok, Err}
-use Rattle.std.specs.Prelude.{if◌then◌else◌, encode_utf8_all}
+use Rattle.std.specs.Prelude.{if◌then◌else◌}
 use Rattle.tcl_words.specs.ListText.{AtElement, read_list}
 use Rattle.command_effects.specs.declared.answers.Fault.{Fault}
 use Rattle.command_effects.specs.declared.answers.Fault.TheVariants.{BadList}
@@ -55,7 +55,3 @@ with_names tags (name ∷ names) = with_names (with_name tags name) names
 -- how many characters texts have
 abbrev pub total : List Pair → ℕ
 total pairs = sum_by (λ (pair : Pair). length pair.text) pairs
-
--- how many bytes they have
-abbrev pub total_bytes : List Pair → ℕ
-total_bytes pairs = sum_by (λ (pair : Pair). length (encode_utf8_all pair.text)) pairs

@@ -135,13 +135,9 @@ pub fn set_slot<S: TextStore>(
     ensures anchors { text.new.anchors.items ≡ text.old.anchors.items }
     ensures fault { IfErr result (λ fault. fault ≡ Memory) }
 {
-    match plan_tag(alloc, text, spans, slot, is_on) {
-        Err(_) => Err(Fault::Memory),
-        Ok(plan) => {
-            commit(plan, text);
-            Ok(())
-        }
-    }
+    let plan = plan_tag(alloc, text, spans, slot, is_on)?;
+    commit(plan, text);
+    Ok(())
 }
 
 /// Takes slots off all characters of a text.
@@ -158,11 +154,7 @@ pub fn clear_slots<S: TextStore>(
     ensures anchors { text.new.anchors.items ≡ text.old.anchors.items }
     ensures fault { IfErr result (λ fault. fault ≡ Memory) }
 {
-    match plan_clear(alloc, text, slots) {
-        Err(_) => Err(Fault::Memory),
-        Ok(plan) => {
-            commit(plan, text);
-            Ok(())
-        }
-    }
+    let plan = plan_clear(alloc, text, slots)?;
+    commit(plan, text);
+    Ok(())
 }

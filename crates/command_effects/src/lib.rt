@@ -6,7 +6,6 @@ mod answers;
 mod arguments;
 mod comparisons;
 mod edits;
-mod excess;
 mod listing;
 mod lists;
 mod marking;
@@ -21,7 +20,6 @@ pub use arguments::{first, first_two, none_or_one, one, one_or_two, three, two, 
 pub use command_table::is_word;
 pub use comparisons::Comparison;
 pub use edits::{clear_slots, prepare_drop, put_mark, put_widget_marks, set_slot, take_marks};
-pub use excess::is_one_too_many;
 pub use listing::{
     push_filled, push_mark_names, push_names, push_names_in, push_next, push_previous, push_ranges,
 };

@@ -47,16 +47,11 @@ fn pair_at(alloc: Global, position: usize, text: &str, list: Option<&str>) -> Re
         pair_at position (chars text.now) (option_map (λ word. chars word.now) list.entry) ≡ Err fault) }
 {
     let text = Text::new(String::from_str(alloc, text)?);
-    match list {
-        None => Ok(Pair { text, names: None }),
-        Some(list) => match names_at(alloc, position + 1, list) {
-            Err(fault) => Err(fault),
-            Ok(names) => Ok(Pair {
-                text,
-                names: Some(names),
-            }),
-        },
-    }
+    let names = match list {
+        None => None,
+        Some(list) => Some(names_at(alloc, position + 1, list)?),
+    };
+    Ok(Pair { text, names })
 }
 
 /// Texts with their tag lists, of which the first text stands at a position. The last list may be left out.
@@ -69,21 +64,14 @@ pub fn pairs_at(alloc: Global, position: usize, words: &[String]) -> Result<Vec<
     let mut here = position;
     let mut rest = words;
     while rest.len() >= 2 {
-        match pair_at(alloc, here, rest[0].as_str(), Some(rest[1].as_str())) {
-            Err(fault) => return Err(fault),
-            Ok(pair) => pairs.push(pair)?,
-        }
+        let pair = pair_at(alloc, here, rest[0].as_str(), Some(rest[1].as_str()))?;
+        pairs.push(pair)?;
         rest = &rest[2..];
         here += 2;
     }
     if rest.is_empty() {
         return Ok(pairs);
     }
-    match pair_at(alloc, here, rest[0].as_str(), None) {
-        Err(fault) => Err(fault),
-        Ok(pair) => {
-            pairs.push(pair)?;
-            Ok(pairs)
-        }
-    }
+    pairs.push(pair_at(alloc, here, rest[0].as_str(), None)?)?;
+    Ok(pairs)
 }

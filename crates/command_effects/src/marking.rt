@@ -55,8 +55,6 @@ pub fn turn_mark<S: TextStore>(
 {
     put_mark(alloc, store, number, place)?;
     let _known = marks.set_gravity(name, place.gravity);
-    // Where the marks are counted, they are known to be those of a table.
-    let _count = marks.len();
     Ok(())
 }
 
@@ -82,11 +80,7 @@ pub fn make_mark<S: TextStore>(
     match marks.create(String::from_str(alloc, name)?)? {
         None => Err(Fault::TooManyMarks),
         Some(number) => match put_mark(alloc, store, number, place) {
-            Ok(()) => {
-                // Where the marks are counted, they are known to be those of a table.
-                let _count = marks.len();
-                Ok(())
-            }
+            Ok(()) => Ok(()),
             Err(_) => {
                 marks.unset(name);
                 Err(Fault::Memory)

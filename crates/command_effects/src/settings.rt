@@ -91,12 +91,9 @@ fn line_at(position: usize, word: &str) -> Result<Option<usize>, Fault>
     if word.is_empty() {
         return Ok(None);
     }
-    match integer_at(position, word) {
-        Err(fault) => Err(fault),
-        Ok(number) => match line_numbered(number) {
-            None => Err(Fault::BadInteger(position)),
-            Some(line) => Ok(Some(line)),
-        },
+    match line_numbered(integer_at(position, word)?) {
+        None => Err(Fault::BadInteger(position)),
+        Some(line) => Ok(Some(line)),
     }
 }
 
@@ -236,10 +233,7 @@ impl Settings {
         let mut here = position;
         let mut rest = words;
         while rest.len() >= 2 {
-            match settings.read_one(here + 1, rest[0].as_str(), rest[1].as_str(), lines) {
-                Err(fault) => return Err(fault),
-                Ok(next) => settings = next,
-            }
+            settings = settings.read_one(here + 1, rest[0].as_str(), rest[1].as_str(), lines)?;
             rest = &rest[2..];
             here += 2;
         }

@@ -1,6 +1,5 @@
-ghost use Rattle.std.specs.Prelude.{◌≡◌, ◌≢◌, true, None, Some, ◌+◌, ◌<◌, ◌≤◌, length, chars, map, option_map, IfOk};
-ghost use Rattle.std.specs.Prelude.{min, [], ◌∷◌};
-ghost use Rattle.std.specs.Prelude.{IfErr, OnOk, OnErr};
+ghost use Rattle.std.specs.Prelude.{◌≡◌, ◌≢◌, ◌+◌, ◌<◌, ◌≤◌, ◌∷◌, [], true, false, nat_lt, min, length, chars, map};
+ghost use Rattle.std.specs.Prelude.{None, Some, option_map, IfOk, IfErr, OnOk, OnErr};
 ghost use Rattle.std.specs.Char.{IsScalar};
 ghost use Rattle.std.specs.List.{All};
 ghost use Rattle.edit_ops.specs.Anchors.{AnchorsStand};
@@ -16,47 +15,47 @@ ghost use Rattle.index_grammar.specs.Names.{known_tags};
 ghost use Rattle.tag_table.specs.Tags.{AreTags, names_of};
 ghost use Rattle.text_model.specs.LimitTable.{AreLimits};
 ghost use Rattle.text_model.specs.declared.limits.TheConstants.Limits.{MOST_TAGS, MOST_WIDGETS};
-ghost use Rattle.command_effects.specs.declared.answers.Fault.TheVariants.{Memory};
+ghost use Rattle.command_effects.specs.declared.answers.Fault.TheVariants.{Memory, TooManyTags};
 ghost use Rattle.command_effects.specs.Edits.{excess, length_replaced};
 ghost use Rattle.command_effects.specs.Lists.{with_name, with_names, all_names, total};
 ghost use Rattle.command_effects.specs.Tagging.{IsFront, piece_of};
 
 use crate::answers::Fault;
 use crate::edits::set_slot;
-use crate::excess::excess_of;
 use crate::lists::Pair;
 use crate::tagging::{make_listed_pieces, make_tag, own_slot};
 use edit_ops::{EditRules, EditedText, Plan, SlottedText, Span, Target, plan_insert, plan_replace};
-use std::alloc::{AllocError, Global};
 use tag_table::TagTable;
 use text_model::{TagSlot, TextStore};
 use undo_stack::EditKind;
 
-/// Makes the tags of pairs that are new, of which there is room, and gives the texts with the slots of their lists.
-/// Where memory is refused, new tags may stand behind the others.
+/// Makes the tags of pairs that are new, and gives the texts with the slots of their lists. Where that is refused, new
+/// tags may stand behind the others.
 fn make_pieces(
-    alloc: Global,
+    rules: &EditRules<'_>,
     tags: &mut TagTable,
     own: TagSlot,
     pairs: Vec<Pair>,
-) -> Result<Vec<SlottedText>, AllocError>
+) -> Result<Vec<SlottedText>, Fault>
     requires roomy { tags.old.limit ≡ MOST_TAGS }
-    requires few { length (with_names (names_of tags.old.tags) (all_names pairs.items)) ≤ MOST_TAGS + 1 }
     requires known { own.0 < MOST_WIDGETS }
+    ensures bounds { AreLimits rules.now.limits.now }
     ensures front { IsFront tags.old tags.new }
     ensures sound { OnOk result (AreTags tags.new) }
     ensures made { OnOk result (names_of tags.new.tags ≡ with_names (names_of tags.old.tags) (all_names pairs.items)) }
     ensures pieces { IfOk result (λ pieces. pieces.items ≡ map (piece_of tags.new.tags own.0) pairs.items) }
+    ensures few { OnOk result (nat_lt (rules.now.limits.now.tags + 1)
+        (length (with_names (names_of tags.old.tags) (all_names pairs.items))) ≡ false) }
+    ensures fault { IfErr result (λ fault. fault ≢ Memory → (fault ≡ TooManyTags)
+        × (nat_lt (rules.now.limits.now.tags + 1)
+        (length (with_names (names_of tags.old.tags) (all_names pairs.items))) ≡ true)) }
 {
-    match make_listed_pieces(alloc, tags, own, pairs) {
-        Err(Fault::Memory) => Err(AllocError),
-        Err(_) => unreachable!(),
-        Ok(pieces) => {
-            // Where the tags are counted, they are known to be those of a table.
-            let _count = tags.len();
-            Ok(pieces)
-        }
+    let most = rules.limits.tags() as usize + 1;
+    let pieces = make_listed_pieces(rules.alloc, tags, own, pairs)?;
+    if tags.len() > most {
+        return Err(Fault::TooManyTags);
     }
+    Ok(pieces)
 }
 
 /// Makes the tags of pairs that are new, and a plan that inserts their texts before the character at an offset, each
@@ -76,7 +75,7 @@ pub fn plan_pairs<S: TextStore>(
     ensures bounds { AreLimits rules.now.limits.now }
     ensures front { IsFront tags.old tags.new }
     ensures sound { OnOk result (AreTags tags.new) }
-    ensures scalars { All (λ pair. All IsScalar pair.text) pairs.items }
+    ensures scalars { OnOk result (All (λ pair. All IsScalar pair.text) pairs.items) }
     ensures made { OnOk result (names_of tags.new.tags ≡ with_names (names_of tags.old.tags) (all_names pairs.items)) }
     ensures same { IsUnchanged S.content text.old text.new }
     ensures ready { IfOk result (λ plan. S.ready text.new.store plan.prepared) }
@@ -95,10 +94,7 @@ pub fn plan_pairs<S: TextStore>(
         excess rules.now.limits.now (length (with_names (names_of tags.old.tags) (all_names pairs.items)))
         (length (S.content text.old.store).cells + total pairs.items) ≡ Some fault) }
 {
-    if let Some(fault) = excess_of(rules.limits, tags, pairs.as_slice(), text.store.len()) {
-        return Err(fault);
-    }
-    let pieces = make_pieces(rules.alloc, tags, own, pairs)?;
+    let pieces = make_pieces(rules, tags, own, pairs)?;
     Ok(plan_insert(rules, text, at, pieces)?)
 }
 
@@ -120,7 +116,7 @@ pub fn plan_replacement<S: TextStore>(
     ensures bounds { AreLimits rules.now.limits.now }
     ensures front { IsFront tags.old tags.new }
     ensures sound { OnOk result (AreTags tags.new) }
-    ensures scalars { All (λ pair. All IsScalar pair.text) pairs.items }
+    ensures scalars { OnOk result (All (λ pair. All IsScalar pair.text) pairs.items) }
     ensures made { OnOk result (names_of tags.new.tags ≡ with_names (names_of tags.old.tags) (all_names pairs.items)) }
     ensures same { IsUnchanged S.content text.old text.new }
     ensures ready { IfOk result (λ plan. S.ready text.new.store plan.prepared) }
@@ -142,19 +138,13 @@ pub fn plan_replacement<S: TextStore>(
         (length_replaced (length (S.content text.old.store).cells) target.last target.from target.to
         + total pairs.items) ≡ Some fault) }
 {
-    let Target { last, from, to, .. } = target;
-    let left = text.store.len() - (to.min(last) - from.min(last));
-    if let Some(fault) = excess_of(rules.limits, tags, pairs.as_slice(), left) {
-        return Err(fault);
-    }
-    let pieces = make_pieces(rules.alloc, tags, own, pairs)?;
+    let pieces = make_pieces(rules, tags, own, pairs)?;
     Ok(plan_replace(rules, text, target, pieces)?)
 }
 
-/// Makes a tag if it is new, of which there is room, and sets it on spans. Where memory is refused, the new tag may
-/// stand behind the others.
+/// Makes a tag if it is new, and sets it on spans. Where that is refused, the new tag may stand behind the others.
 pub fn tag_spans<S: TextStore>(
-    alloc: Global,
+    rules: &EditRules<'_>,
     tags: &mut TagTable,
     own: TagSlot,
     text: &mut EditedText<S>,
@@ -163,7 +153,6 @@ pub fn tag_spans<S: TextStore>(
 ) -> Result<(), Fault>
     requires spans { All (SpanFits (length (S.content text.old.store).cells)) spans.now }
     requires roomy { tags.old.limit ≡ MOST_TAGS }
-    requires few { length (with_name (names_of tags.old.tags) (chars name.now)) ≤ MOST_TAGS + 1 }
     requires known { own.0 < MOST_WIDGETS }
     ensures front { IsFront tags.old tags.new }
     ensures sound { OnOk result (AreTags tags.new) }
@@ -174,15 +163,15 @@ pub fn tag_spans<S: TextStore>(
     ensures err { OnErr result (S.content text.new.store ≡ S.content text.old.store) }
     ensures log { log_of text.new.history ≡ log_of text.old.history }
     ensures anchors { text.new.anchors.items ≡ text.old.anchors.items }
-    ensures fault { IfErr result (λ fault. fault ≡ Memory) }
+    ensures few { OnOk result (length (with_name (names_of tags.old.tags) (chars name.now))
+        ≤ rules.now.limits.now.tags + 1) }
+    ensures fault { IfErr result (λ fault. fault ≢ Memory → (fault ≡ TooManyTags) × (rules.now.limits.now.tags + 1
+        < length (with_name (names_of tags.old.tags) (chars name.now)))) }
 {
-    match make_tag(alloc, tags, name) {
-        Err(Fault::Memory) => Err(Fault::Memory),
-        Err(_) => unreachable!(),
-        Ok(slot) => {
-            // Where the tags are counted, they are known to be those of a table.
-            let _count = tags.len();
-            set_slot(alloc, text, spans, own_slot(slot, own), true)
-        }
+    let most = rules.limits.tags() as usize + 1;
+    let slot = make_tag(rules.alloc, tags, name)?;
+    if tags.len() > most {
+        return Err(Fault::TooManyTags);
     }
+    set_slot(rules.alloc, text, spans, own_slot(slot, own), true)
 }

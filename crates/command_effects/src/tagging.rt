@@ -1,4 +1,4 @@
-ghost use Rattle.std.specs.Prelude.{◌≡◌, ◌≢◌, ◌+◌, ◌<◌, [], length, map, Some, Err, chars, option_map, IfOk, IfErr};
+ghost use Rattle.std.specs.Prelude.{◌≡◌, ◌≢◌, ◌+◌, ◌<◌, length, map, Some, Err, chars, option_map, IfOk, IfErr};
 ghost use Rattle.std.specs.Prelude.{OnOk, IfSome};
 ghost use Rattle.std.specs.FinSet as set;
 ghost use Rattle.std.specs.List.{All};
@@ -37,16 +37,6 @@ pub fn make_tag(alloc: Global, tags: &mut TagTable, name: &str) -> Result<TagSlo
     }
 }
 
-/// The names of the list of a pair, if it has one.
-pub fn listed_names(pair: &Pair) -> &[String]
-    ensures { texts_of result.now ≡ listed_names pair.now.names }
-{
-    match &pair.names {
-        None => &[],
-        Some(names) => names.as_slice(),
-    }
-}
-
 /// The slot of a tag of the table, for a widget: that of `sel` is the widget's own.
 pub fn own_slot(slot: TagSlot, own: TagSlot) -> TagSlot
     requires { own.0 < MOST_WIDGETS }
@@ -62,10 +52,7 @@ pub fn find_tag(tags: &TagTable, own: TagSlot, name: &str) -> Option<TagSlot>
     ensures value { option_map (λ slot. slot.0) result ≡ known_tags tags.now.tags own.0 (chars name.now) }
     ensures bound { IfSome result (λ slot. slot.0 < slot_count) }
 {
-    match tags.find(name) {
-        None => None,
-        Some(slot) => Some(own_slot(slot, own)),
-    }
+    Some(own_slot(tags.find(name)?, own))
 }
 
 /// The slots of the tags of these names, for a widget; those that are new are made.
@@ -87,10 +74,8 @@ fn make_slots(
 {
     let mut slots = TagSet::empty();
     for name in names {
-        match make_tag(alloc, tags, name.as_str()) {
-            Err(fault) => return Err(fault),
-            Ok(slot) => slots = slots.with(own_slot(slot, own)),
-        }
+        let slot = make_tag(alloc, tags, name.as_str())?;
+        slots = slots.with(own_slot(slot, own));
     }
     Ok(slots)
 }
@@ -112,19 +97,14 @@ fn make_piece(
         (fault ≡ TooManyTags) × (tags.old.limit + 1
         < length (with_names (names_of tags.old.tags) (listed_names pair.names)))) }
 {
-    match &pair.names {
-        None => Ok(SlottedText {
-            text: pair.text,
-            slots: None,
-        }),
-        Some(names) => match make_slots(alloc, tags, own, names.as_slice()) {
-            Err(fault) => Err(fault),
-            Ok(slots) => Ok(SlottedText {
-                text: pair.text,
-                slots: Some(slots),
-            }),
-        },
-    }
+    let slots = match &pair.names {
+        None => None,
+        Some(names) => Some(make_slots(alloc, tags, own, names.as_slice())?),
+    };
+    Ok(SlottedText {
+        text: pair.text,
+        slots,
+    })
 }
 
 /// The texts of pairs with the slots of their lists, whose tags are made where they are new. Where that is refused, new
@@ -145,10 +125,7 @@ pub fn make_listed_pieces(
 {
     let mut pieces = Vec::with_capacity(alloc, pairs.len())?;
     for pair in pairs {
-        match make_piece(alloc, tags, own, pair) {
-            Err(fault) => return Err(fault),
-            Ok(piece) => pieces.push(piece)?,
-        }
+        pieces.push(make_piece(alloc, tags, own, pair)?)?;
     }
     Ok(pieces)
 }

@@ -3,7 +3,8 @@ use Rattle.documents.proofs.Common.{◌≡◌, ◌+◌, ◌++◌, true, false, n
 use Rattle.documents.proofs.Common.{if◌then◌else◌, Action, replayed, replays, back-cons, Document, without_cells}
 use Rattle.documents.proofs.Common.{action_again, action_back, group_again, group_back, text_back, Option, None, Some}
 use Rattle.documents.proofs.Common.{Empty, Widget, next_undo, next_redo, edit_undo, edit_redo, undo_found, redo_found}
-use Rattle.documents.proofs.Common.{undone, redone, is_idle, answered, edited}
+use Rattle.documents.proofs.Common.{undone, redone, is_idle, answered, edited, refused, is_some, some_is, NothingToUndo}
+use Rattle.documents.proofs.Common.{NothingToRedo}
 
 -- the actions of a group that are reverted, the last first
 again-append : (actions others : List Action) (document : Document)
@@ -28,6 +29,18 @@ again-back (action ∷ actions) document =
     ∙ flipped-again action (group_again (replays true actions) document)
     ∙ ap (action_back action) (again-back actions document)
 
+-- ---- the commands, where no actions are kept
+
+pub undo-off : (document : Document) (widget : Widget) → document.undo ≡ false →
+    edit_undo document widget ≡ answered document Empty
+undo-off document widget off =
+    ap (λ b. if b then undo_found document widget (next_undo document.history) else answered document Empty) off
+
+pub redo-off : (document : Document) (widget : Widget) → document.undo ≡ false →
+    edit_redo document widget ≡ answered document Empty
+redo-off document widget off =
+    ap (λ b. if b then redo_found document widget (next_redo document.history) else answered document Empty) off
+
 -- ---- the commands, where actions are kept
 
 pub undo-as : (document : Document) (widget : Widget) (found : Option (List Action)) → document.undo ≡ true →
@@ -37,12 +50,42 @@ undo-as document widget found on is =
     ap (λ b. if b then undo_found document widget (next_undo document.history) else answered document Empty) on
     ∙ ap (undo_found document widget) is
 
-redo-as : (document : Document) (widget : Widget) (found : Option (List Action)) → document.undo ≡ true →
+pub redo-as : (document : Document) (widget : Widget) (found : Option (List Action)) → document.undo ≡ true →
     next_redo document.history ≡ found
     → edit_redo document widget ≡ redo_found document widget found
 redo-as document widget found on is =
     ap (λ b. if b then redo_found document widget (next_redo document.history) else answered document Empty) on
     ∙ ap (redo_found document widget) is
+
+-- where no group is left
+none-is : {A : Type 0} (found : Option A) → is_some found ≡ false → found ≡ None
+none-is None none = refl
+none-is (Some value) none = absurd (cc)
+
+pub undo-none : (document : Document) (widget : Widget) → document.undo ≡ true →
+    is_some (next_undo document.history) ≡ false → edit_undo document widget ≡ refused document NothingToUndo
+undo-none document widget on none = undo-as document widget None on (none-is (next_undo document.history) none)
+
+pub redo-none : (document : Document) (widget : Widget) → document.undo ≡ true →
+    is_some (next_redo document.history) ≡ false → edit_redo document widget ≡ refused document NothingToRedo
+redo-none document widget on none = redo-as document widget None on (none-is (next_redo document.history) none)
+
+-- by an idle widget
+pub undo-idle : (document : Document) (widget : Widget) → document.undo ≡ true →
+    is_some (next_undo document.history) ≡ true → is_idle document widget ≡ true
+    → edit_undo document widget ≡ answered document Empty
+undo-idle document widget on some idle =
+    let found = some_is (next_undo document.history) some in
+    undo-as document widget (Some found.0) on found.1 ∙ ap (λ b. if b then answered document Empty
+    else edited (undone widget found.0 document) (replays true found.0)) idle
+
+pub redo-idle : (document : Document) (widget : Widget) → document.undo ≡ true →
+    is_some (next_redo document.history) ≡ true → is_idle document widget ≡ true
+    → edit_redo document widget ≡ answered document Empty
+redo-idle document widget on some idle =
+    let found = some_is (next_redo document.history) some in
+    redo-as document widget (Some found.0) on found.1 ∙ ap (λ b. if b then answered document Empty
+    else edited (redone widget found.0 document) (replays false found.0)) idle
 
 -- by a widget that isn't idle
 pub undo-done : (document : Document) (widget : Widget) (group : List Action) → document.undo ≡ true →

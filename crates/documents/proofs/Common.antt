@@ -1,18 +1,18 @@
 -- The names that most proofs of this crate cite, passed on from one place. Declares nothing.
 pub use Rattle.std.proofs.Common.{[], ap₂, if◌then◌else◌, lit≤, true≢false, ℕ, ◌&&◌, ◌*◌, ◌++◌, ◌+◌, ◌-◌, ◌<◌, ◌==◌}
 pub use Rattle.std.proofs.Common.{◌^◌, ◌||◌, ◌∙◌, ◌∷◌, ◌≡◌, ◌≢◌, ◌≤◌, ◌⊎◌, Bool, Contains, Err, IfOk, IfSome, List}
-pub use Rattle.std.proofs.Common.{None, Ok, OnErr, Option, Result, Some, String, ap, append-nil, append_assoc, arith}
-pub use Rattle.std.proofs.Common.{bytes_eq, chars, cond, drop, encode_utf8_all, eq-eqb, eqb-true, false, filter, find}
-pub use Rattle.std.proofs.Common.{get_or, get_or-append-add, inl, inr, is_some, length, length-append, length-drop}
-pub use Rattle.std.proofs.Common.{length-take, map, max, min, nat_le, nat_lt, ne_eqb, not, option_and_then, option_map}
-pub use Rattle.std.proofs.Common.{refl, remove, rules, set, slice_get, slice_index_or, slice_range, string_bytes, subst}
-pub use Rattle.std.proofs.Common.{suc, sym, take, true, zero}
+pub use Rattle.std.proofs.Common.{None, Ok, OnErr, OnOk, Option, Result, Some, String, ap, append-nil, append_assoc}
+pub use Rattle.std.proofs.Common.{arith, bytes_eq, chars, cond, drop, encode_utf8_all, eq-eqb, eqb-true, false, filter}
+pub use Rattle.std.proofs.Common.{find, get_or, get_or-append-add, inl, inr, is_some, length, length-append}
+pub use Rattle.std.proofs.Common.{length-drop, length-take, map, max, min, nat_le, nat_lt, ne_eqb, not, option_and_then}
+pub use Rattle.std.proofs.Common.{option_map, refl, remove, rules, set, slice_get, slice_index_or, slice_range}
+pub use Rattle.std.proofs.Common.{string_bytes, subst, suc, sym, take, true, zero}
 pub use Rattle.command_effects.proofs.LeftLaws.{AreApart-head, AreApart-tail}
 pub use Rattle.command_effects.proofs.MadeLaws.{absent_slot, among_slot, found_tag, front_same, take-more}
 pub use Rattle.command_effects.proofs.PairLaws.{spans_of-fit}
 pub use Rattle.command_effects.proofs.WrittenLaws.{filter-append, filter-in, filter-out, take-found}
 pub use Rattle.command_effects.specs.Edits.{excess, length_replaced, new_mark, with_own_marks, without_widget}
-pub use Rattle.command_effects.specs.Faults.{at_position, index_fault}
+pub use Rattle.command_effects.specs.Faults.{at_position, edit_fault, index_fault}
 pub use Rattle.command_effects.specs.Listing.{begun, range_words}
 pub use Rattle.command_effects.specs.Lists.{Pair, all_names, listed_names, total, with_name, with_names}
 pub use Rattle.command_effects.specs.Marking.{IsMadeMark, is_left, marks_left, numbers_named, taken}
@@ -25,8 +25,8 @@ pub use Rattle.command_effects.specs.declared.answers.Answer.{Answer}
 pub use Rattle.command_effects.specs.declared.answers.Answer.TheVariants.{Empty}
 pub use Rattle.command_effects.specs.declared.answers.Fault.{Fault}
 pub use Rattle.command_effects.specs.declared.answers.Fault.TheVariants.{InvalidCommandName, Memory, NoSuchTag}
-pub use Rattle.command_effects.specs.declared.answers.Fault.TheVariants.{NothingToUndo, TextTooLong, TooManyMarks}
-pub use Rattle.command_effects.specs.declared.answers.Fault.TheVariants.{TooManyTags}
+pub use Rattle.command_effects.specs.declared.answers.Fault.TheVariants.{NothingToRedo, NothingToUndo, TextTooLong}
+pub use Rattle.command_effects.specs.declared.answers.Fault.TheVariants.{TooManyMarks, TooManyTags}
 pub use Rattle.command_effects.specs.declared.settings.DocumentSettings.{DocumentSettings}
 pub use Rattle.command_effects.specs.declared.settings.Settings.{Settings}
 pub use Rattle.documents.specs.Deletions.{delete_places, delete_spans, deleted_runs, deletions, last_bare, replace_span}
@@ -65,7 +65,7 @@ pub use Rattle.documents.specs.TagsTold.{AddsRuns, AreDistinct, AreGapped, AreRi
 pub use Rattle.documents.specs.TagsTold.{LeavesGap, LiesIn, TellsRuns, TellsSpan, TellsSpans, TellsTags, after_changes}
 pub use Rattle.documents.specs.TagsTold.{flags_of, in_key_run, in_run, is_turned, some_change, untagged}
 pub use Rattle.documents.specs.Texts.{insert_at, insertion_offset, joined_text, keyed_text, tags_with, within_limits}
-pub use Rattle.documents.specs.Told.{Foretells, TellsCells}
+pub use Rattle.documents.specs.Told.{Foretells, TellsCells, reply_of}
 pub use Rattle.documents.specs.Views.{is_idle, shown, shown_flags, view_end, view_start}
 pub use Rattle.documents.specs.WellFormed.{HasItsKeys, IsPlaced, IsWellFormedDocument, belongs, window_names}
 pub use Rattle.documents.specs.Widgets.{IsOpen, ShowsOpenly, is_kept, new_widget, widget_named, with_peer}
@@ -132,6 +132,7 @@ pub use Rattle.std.proofs.lemmas.List.Sums.{sum_by-cons}
 pub use Rattle.std.proofs.lemmas.Map.Lookups.{CmpEqualImpliesEq, exact_pairs, exact_unsigned}
 pub use Rattle.std.proofs.lemmas.Option.{get_or_from_slice_get, none-some, option_and_then_some, same_Some}
 pub use Rattle.std.proofs.lemmas.Option.{slice_get-get_or, slice_get-map, slice_get_within}
+pub use Rattle.std.proofs.lemmas.Result.{IfOk-from_err, on_err_weaker}
 pub use Rattle.std.proofs.lemmas.Slice.Eq.{bytes_eq-Decides}
 pub use Rattle.std.proofs.lemmas.Str.{IsUtf8-string_bytes, chars-nil, chars_from_encodes}
 pub use Rattle.std.specs.BTreeMap.{is_at}
@@ -141,7 +142,7 @@ pub use Rattle.std.specs.Cmp.{Equal-is, IsTotalOrder, both_ways, nat_cmp_total, 
 pub use Rattle.std.specs.List.{All, AllByRecursion, cons_option, flat_map, fold, list_any, position_from}
 pub use Rattle.std.specs.Option.{option_or}
 pub use Rattle.std.specs.Ordering.{eq_by_cmp, is_eq, nat_cmp}
-pub use Rattle.std.specs.Prelude.{Box, IsUtf8, box_value, codes, is_ok, reverse, unwrap_or}
+pub use Rattle.std.specs.Prelude.{Box, IsErr, IsErrAnd, IsUtf8, box_value, codes, is_ok, reverse, unwrap_or}
 pub use Rattle.tag_table.specs.Priority.{next_to}
 pub use Rattle.tag_table.specs.Tags.{AreTags, Tag, Tags, first_slot, is_named, sel, slot_of, slots_of}
 pub use Rattle.tag_table.specs.declared.faults.NoSuchTag.TheVariants.{Moved, Neighbour}

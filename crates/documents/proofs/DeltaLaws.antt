@@ -109,6 +109,14 @@ pub known-stand : {Z : Type 0} (follows : Bool) (actions : List Action) (old new
 known-stand follows actions old new None knows = tt
 known-stand follows actions old new (Some delta) knows = knows.1.exact.stand
 
+-- the same of a delta that is taken out of a plan
+pub taken-stand : {Z : Type 0} (follows : Bool) (actions : List Action) (old new : List Cell)
+    {kept taken : Option (Box Delta Z)} {cells : List Cell} → KnowsDelta follows actions old new kept → taken ≡ kept
+    → cells ≡ old → IfSome taken (λ delta. AreHunks 0 (length cells) (box_value delta).hunks.items)
+taken-stand follows actions old new {taken = taken} knows is same =
+    subst (λ (cells : List Cell). IfSome taken (λ delta. AreHunks 0 (length cells) (box_value delta).hunks.items))
+    (sym same) (known-stand follows actions old new taken (subst (KnowsDelta follows actions old new) (sym is) knows))
+
 -- ---- plans that are carried out
 
 -- what a plan leaves, where the text is as it was before the plan was made

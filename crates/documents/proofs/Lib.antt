@@ -47,6 +47,7 @@ pub mod QueryLaws
 pub mod RemovalLaws
 pub mod ReorderLaws
 pub mod ReplacementLaws
+pub mod ResultLaws
 pub mod ReversalLaws
 pub mod SeatLaws
 pub mod SeatedLaws

@@ -4,10 +4,17 @@ use Rattle.documents.proofs.Common.{◌∙◌, arith, ◌⊎◌, inl, inr, lengt
 use Rattle.documents.proofs.Common.{LimitTable, separated, Settings, is_among, is_same, Document, Widget}
 use Rattle.documents.proofs.Common.{is_window_name, spans_shown, insertion_offset, window_names, new_widget, with_peer}
 use Rattle.documents.proofs.Common.{if◌then◌else◌}
-use Rattle.command_effects.proofs.CountLaws.{among-append}
+use mathlib.Core.Bool.{or_assoc}
 use Rattle.documents.proofs.CarriedLaws.{IsCarried, carried-reordered}
 use Rattle.documents.proofs.NamesKeptLaws.{HasNamesOf, add-kept, delete-kept, insert-kept, mark-kept, redo-kept}
 use Rattle.documents.proofs.NamesKeptLaws.{remove-kept, replace-kept, set-kept, undo-kept}
+
+pub among-append : (name : List ℕ) (names others : List (List ℕ)) →
+    is_among name (names ++ others) ≡ (is_among name names || is_among name others)
+among-append name [] others = refl
+among-append name (first ∷ names) others =
+    ap (λ b. is_same name first || b) (among-append name names others)
+    ∙ sym (or_assoc (is_same name first) (is_among name names) (is_among name others))
 
 -- each widget is one from before, or a window with a name that none had, and there are no fewer
 pub record AreNamed (windows : List (List ℕ)) (old new : Document) : Type 0 where

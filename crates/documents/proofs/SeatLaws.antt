@@ -34,7 +34,9 @@ seat-named (seat ∷ seats) (suc place) name is =
 -- ---- a seat put last
 
 abbrev with_seat : Names → List ℕ → ℕ → Names
-with_seat seats text number = record seats { entries = seats.entries ++ record { name = chars text; number = number } ∷ [] }
+with_seat seats text number = record seats {
+  entries = seats.entries ++ record { name = chars text; number = number } ∷ [];
+}
 
 abbrev before : List Named → Names → Names
 before entries seats = record seats { entries = take (length entries) seats.entries }

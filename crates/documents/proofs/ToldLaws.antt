@@ -3,9 +3,10 @@ use Rattle.documents.proofs.Common.{◌≡◌, ℕ, List, [], ◌∷◌, length,
 use Rattle.documents.proofs.Common.{hunk_changes, patched, patched_by, map-patched, Empty, AreExact, AreHunksOf}
 use Rattle.documents.proofs.Common.{Document, KeyedCell, characters, Change, TellsTags, after_changes, untagged}
 use Rattle.documents.proofs.Common.{Foretells, TellsCells, EditTold, ◌≢◌, Ok, Err, Memory, Does, is_ok, All, AreGapped}
-use Rattle.documents.proofs.Common.{IsTagRun, TagChange}
+use Rattle.documents.proofs.Common.{IsTagRun, TagChange, Result, Fault, answered, IsErr, IsErrAnd, reply_of}
 use Rattle.edit_ops.specs.declared.hunks.Hunk.{Hunk}
 use Rattle.edit_ops.proofs.TellLaws.{changes-exact, hunks-made}
+use Rattle.documents.proofs.ChangeLaws.{does-left}
 use Rattle.documents.proofs.TagRunLaws.{tag-runs}
 use Rattle.documents.proofs.TagsToldLaws.{told-characters}
 
@@ -58,3 +59,19 @@ told-made {limits} {old} {new} {change} {told} does foretold =
     let known : Ok Empty ≢ Err Memory = λ same. (let h : Ok Empty ≡ Err Memory = same in absurd (cc)) in
     subst (λ (d : Document). TellsCells change.edits old.cells d.cells told) (sym (does.document known))
     (foretold (ap is_ok (sym (does.reply known))))
+
+-- ---- what is given back where nothing is done
+
+-- memory is wanted
+pub does-refused : {limits : LimitTable} {old new : Document} {change : Change} {wanted : Fault}
+    (result : Result EditTold Fault) → IsErr result × IsErrAnd result (λ fault. fault ≡ wanted) → wanted ≡ Memory
+    → new ≡ old → Does limits old new (reply_of result) change
+does-refused (Ok told) is memory same = absurd is.1
+does-refused {limits} {old} {new} {change} (Err fault) is memory same =
+    does-left limits old new fault change same (λ other. absurd (other (is.1 ∙ memory)))
+
+pub told-idle : (document : Document) (change : Change) {told : EditTold} → change ≡ answered document Empty →
+    told ≡ of_tags [] → TellsCells change.edits document.cells document.cells told
+told-idle document change {told} is nothing =
+    subst (λ edits. TellsCells edits document.cells document.cells told) (sym (ap (λ (c : Change). c.edits) is))
+    (subst (TellsCells [] document.cells document.cells) (sym nothing) (still-tells document.cells document.cells refl))

@@ -251,21 +251,17 @@ impl<S: TextStore> Document<S> {
         ensures { Does limits.now self.old self.new result
             (set_found limits.now self.old (widget_at self.old seat) (chars name.now) offset None) }
     {
-        // Where one of the limits is read, all are known to be in their bounds.
-        let _chars = limits.chars();
         if self.marks.len() >= limits.marks() as usize {
             return Err(Fault::TooManyMarks);
         }
-        match make_mark(
+        make_mark(
             self.alloc,
             &mut self.marks,
             &mut self.text.store,
             name,
             offset,
-        ) {
-            Err(fault) => Err(fault),
-            Ok(()) => Ok(Answer::Empty),
-        }
+        )?;
+        Ok(Answer::Empty)
     }
 
     /// Takes the shared marks of these names out. The widget's own and unknown names are skipped.

@@ -71,8 +71,6 @@ pub fn make_seat<S: TextStore>(
     make_room(disabled, false, slot)?;
     make_room(&mut text.anchors, WHOLE, slot)?;
     put_widget_marks(alloc, &mut text.store, TagSlot(slot), offset)?;
-    // Where the names are counted, they are known to be those of a list.
-    let _count = seats.len();
     Ok(slot as usize)
 }
 
@@ -109,8 +107,6 @@ pub fn remove_seats(seats: &mut NameList, names: &[String])
             place += 1;
         }
     }
-    // Where the names are counted, they are known to be those of a list.
-    let _count = seats.len();
 }
 
 /// Whether some widget isn't of these names.

@@ -20,9 +20,10 @@ use crate::documents::Document;
 use crate::told::EditTold;
 use crate::views::view_of;
 use command_effects::{
-    Answer, Fault, clear_slots, delete_names, deleted_slots, find_tag, is_one_too_many, push_names,
-    push_names_in, push_next, push_previous, push_ranges, set_slot, tag_spans,
+    Answer, Fault, clear_slots, delete_names, deleted_slots, find_tag, push_names, push_names_in,
+    push_next, push_previous, push_ranges, set_slot, tag_spans,
 };
+use edit_ops::EditRules;
 use std::alloc::AllocError;
 use tag_table::NoSuchTag;
 use text_model::{TagSlot, Text, TextStore};
@@ -144,15 +145,18 @@ impl<S: TextStore> Document<S> {
             (add_spans caller.now.limits.now self.old (widget_at self.old caller.now.seat) (chars name.now)
             places.now) self.old self.new result }
     {
-        if is_one_too_many(caller.limits, &self.tags, name) {
-            return Err(Fault::TooManyTags);
-        }
         let number = self.seats.number(caller.seat);
         let spans = self.spans_at(caller.seat, places)?;
         let tags = self.span_tags(caller, name, &spans, true)?;
         let front = self.tags.len();
+        let rules = EditRules {
+            alloc: self.alloc,
+            limits: caller.limits,
+            recording: self.settings.recording(),
+            follows: caller.follows,
+        };
         let tagged = tag_spans(
-            self.alloc,
+            &rules,
             &mut self.tags,
             TagSlot(number),
             &mut self.text,
@@ -222,11 +226,7 @@ impl<S: TextStore> Document<S> {
             (reordered self.old position raised (chars name.now, option_map (λ word. chars word.now) above.entry)) }
     {
         match self.tags.raise(name, above) {
-            Ok(()) => {
-                // Where the tags are counted, they are known to be those of a table.
-                let _count = self.tags.len();
-                Ok(Answer::Empty)
-            }
+            Ok(()) => Ok(Answer::Empty),
             Err(NoSuchTag::Moved) => Err(Fault::NoSuchTag(position)),
             Err(NoSuchTag::Neighbour) => Err(Fault::NoSuchTag(position + 1)),
         }
@@ -244,11 +244,7 @@ impl<S: TextStore> Document<S> {
             (reordered self.old position lowered (chars name.now, option_map (λ word. chars word.now) below.entry)) }
     {
         match self.tags.lower(name, below) {
-            Ok(()) => {
-                // Where the tags are counted, they are known to be those of a table.
-                let _count = self.tags.len();
-                Ok(Answer::Empty)
-            }
+            Ok(()) => Ok(Answer::Empty),
             Err(NoSuchTag::Moved) => Err(Fault::NoSuchTag(position)),
             Err(NoSuchTag::Neighbour) => Err(Fault::NoSuchTag(position + 1)),
         }

@@ -1,5 +1,6 @@
 ghost use Rattle.std.specs.Prelude.{◌≡◌, ◌≢◌, ◌+◌, ◌<◌, ◌≤◌, ◌^◌, ◌↔◌, ◌-◌, nat_lt, min, length, OnOk, IfOk, Err};
 ghost use Rattle.std.specs.Prelude.{true, false, Some, slice_get, ◌∷◌, []};
+ghost use Rattle.std.specs.Char.{IsScalar};
 ghost use Rattle.std.specs.FinSet as set;
 ghost use Rattle.std.specs.List.{All};
 ghost use Rattle.edit_ops.specs.Anchors.{AnchorsStand};
@@ -43,7 +44,8 @@ fn total_of(pieces: &[SlottedText]) -> usize
 
 /// How many bytes texts have, or the greatest number where that is more.
 fn bytes_of(pieces: &[SlottedText]) -> usize
-    ensures { result ≡ min (total_bytes pieces.now) (2 ^ 64 - 1) }
+    ensures value { result ≡ min (total_bytes pieces.now) (2 ^ 64 - 1) }
+    ensures scalars { All (λ piece. All IsScalar piece.text) pieces.now }
 {
     let mut most = 0usize;
     for piece in pieces {
@@ -57,6 +59,7 @@ fn bytes_of(pieces: &[SlottedText]) -> usize
 pub fn is_too_long(limits: &Limits, len: usize, pieces: &[SlottedText]) -> bool
     ensures value { result ≡ nat_lt limits.now.chars (len + total pieces.now) }
     ensures short { result ≡ false → len + total pieces.now < 2 ^ 64 }
+    ensures scalars { All (λ piece. All IsScalar piece.text) pieces.now }
 {
     let most = limits.chars();
     if len.saturating_add(bytes_of(pieces)) <= most {
@@ -210,6 +213,7 @@ pub fn plan_insert<S: TextStore>(
     ensures too_long { (result ≡ Err EditFault.TextTooLong)
         ↔ (rules.now.limits.now.chars < length (S.content text.old.store).cells + total pieces.items) }
     ensures never { result ≢ Err EditFault.IndexOrder }
+    ensures scalars { OnOk result (All (λ piece. All IsScalar piece.text) pieces.items) }
     ensures ready { IfOk result (λ plan. S.ready text.new.store plan.prepared) }
     ensures room { IfOk result (λ plan. HasRoomFor plan.effects text.new.history) }
     ensures widgets { IfOk result (λ plan. KeepsWidgets plan.effects text.old.anchors.items) }

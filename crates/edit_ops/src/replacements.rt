@@ -1,4 +1,6 @@
-ghost use Rattle.std.specs.Prelude.{◌≡◌, ◌+◌, ◌-◌, ◌<◌, ◌≤◌, ◌^◌, ◌↔◌, true, min, length, option_and_then, IfOk, Err};
+ghost use Rattle.std.specs.Prelude.{◌≡◌, ◌+◌, ◌-◌, ◌<◌, ◌≤◌, ◌^◌, ◌↔◌, true, min, length, option_and_then, IfOk};
+ghost use Rattle.std.specs.Prelude.{OnOk, Err};
+ghost use Rattle.std.specs.Char.{IsScalar};
 ghost use Rattle.std.specs.List.{All};
 ghost use Rattle.edit_ops.specs.Anchors.{AnchorsStand};
 ghost use Rattle.edit_ops.specs.Deltas.{KnowsDelta};
@@ -127,6 +129,7 @@ pub fn plan_replace<S: TextStore>(
     ensures too_long { (result ≡ Err EditFault.TextTooLong) ↔ ((target.from ≤ target.to) ×
         (rules.now.limits.now.chars < length (S.content text.old.store).cells
         - (min target.to target.last - min target.from target.last) + total pieces.items)) }
+    ensures scalars { OnOk result (All (λ piece. All IsScalar piece.text) pieces.items) }
     ensures ready { IfOk result (λ plan. S.ready text.new.store plan.prepared) }
     ensures room { IfOk result (λ plan. HasRoomFor plan.effects text.new.history) }
     ensures widgets { IfOk result (λ plan. KeepsWidgets plan.effects text.old.anchors.items) }

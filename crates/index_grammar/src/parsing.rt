@@ -47,8 +47,6 @@ pub fn parse(alloc: Global, word: &str, names: &Names) -> Result<Index, IndexFau
     let Some((base, rest)) = find_base(word, names) else {
         return Err(IndexFault::BadIndex);
     };
-    match read_steps(alloc, rest.as_bytes()) {
-        Ok(modifiers) => Ok(Index { base, modifiers }),
-        Err(fault) => Err(fault),
-    }
+    let modifiers = read_steps(alloc, rest.as_bytes())?;
+    Ok(Index { base, modifiers })
 }

@@ -63,8 +63,6 @@ impl MarkTable {
     pub fn new(alloc: Global, limits: &Limits) -> Result<MarkTable, AllocError>
         ensures { IfOk result (λ marks. marks ≡ record { marks = []; limit = limits.now.marks }) }
     {
-        // Where one of the limits is read, all are known to be in their bounds.
-        let _chars = limits.chars();
         Ok(MarkTable {
             names: NameList::new(alloc, limits.marks())?,
             gravities: Vec::new(alloc),
@@ -129,6 +127,7 @@ impl MarkTable {
         // To take it out again gives back the marks before it.
         ensures back { IfOk result (λ made. IfSome made (λ _.
             without (is_named (chars (string_bytes name))) self.new.marks ≡ self.old.marks)) }
+        ensures sound { OnOk result (AreMarks self.new) }
         ensures err { OnErr result (self.new ≡ self.old) }
     {
         // Nothing is refused behind the name's own request.
@@ -181,6 +180,7 @@ impl MarkTable {
             (λ _. gravity_of (chars name.now) self.old.marks ≡ None) }
         ensures ok { OnOk result (self.new
             ≡ record self.old { marks = turned (chars name.now) gravity self.old.marks }) }
+        ensures sound { OnOk result (AreMarks self.new) }
         ensures err { OnErr result (self.new ≡ self.old) }
     {
         let Some(place) = self.names.place(name) else {

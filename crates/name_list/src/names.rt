@@ -1,5 +1,5 @@
 ghost use Rattle.std.specs.Prelude.{◌≡◌, ℕ, ◌<◌, ◌↔◌, ◌∷◌, [], ◌++◌, length, remove, take, slice_get, chars};
-ghost use Rattle.std.specs.Prelude.{string_bytes, None, Some, Contains, IsNone, IfOk, IfSome, OnErr, MatchOption};
+ghost use Rattle.std.specs.Prelude.{string_bytes, None, Some, Contains, IsNone, IfOk, IfSome, OnOk, OnErr, MatchOption};
 ghost use Rattle.name_list.specs.Moves.{move_index};
 ghost use Rattle.name_list.specs.Names.{Names, place_of, names_of, numbers_of, IsFull, IsLeastFree, AreNames};
 
@@ -121,6 +121,7 @@ impl NameList {
               entries = self.old.entries ++ record { name = chars (string_bytes name); number = number }
                   ∷ [];
             })) }
+        ensures sound { OnOk result (AreNames self.new) }
         ensures err { OnErr result (self.new ≡ self.old) }
     {
         let place = self.numbers.len();
@@ -182,7 +183,8 @@ impl NameList {
     pub fn move_to(&mut self, from: usize, to: usize)
         requires from { from < length self.old.entries }
         requires to { to < length self.old.entries }
-        ensures { self.new ≡ record self.old { entries = move_index self.old.entries from to } }
+        ensures value { self.new ≡ record self.old { entries = move_index self.old.entries from to } }
+        ensures sound { AreNames self.new }
     {
         self.numbers.move_index(from, to);
         note_places(&self.numbers, &mut self.places, 0);

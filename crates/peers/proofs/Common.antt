@@ -5,7 +5,6 @@ pub use Rattle.std.proofs.Common.{Option, Result, Some, String, ap, append-nil, 
 pub use Rattle.std.proofs.Common.{encode_utf8, encode_utf8_all, eqb-true, false, filter, flat_map, get_or, inl, inr}
 pub use Rattle.std.proofs.Common.{is_ok, is_some, length, map, nat_le, nat_lt, not, ok_or, option_map, refl, reverse}
 pub use Rattle.std.proofs.Common.{slice_set, string_bytes, subst, suc, sym, take, true, zero}
-pub use Rattle.command_effects.proofs.CountLaws.{among-append}
 pub use Rattle.command_effects.proofs.WrittenLaws.{filter-append}
 pub use Rattle.command_effects.specs.Arguments.{first_of, first_two_of, none_or_one_of, one_or_two_of, two_of}
 pub use Rattle.command_effects.specs.Faults.{shape_fault, with_value}
@@ -43,7 +42,7 @@ pub use Rattle.documents.proofs.MarkReportLaws.{current_key, insert_key, listed-
 pub use Rattle.documents.proofs.MarkReportLaws.{marks-peered, marks-put, marks-stand, none-watched, one-watched}
 pub use Rattle.documents.proofs.MarkReportLaws.{own-watched}
 pub use Rattle.documents.proofs.NamesKeptLaws.{HasNamesOf, redo-kept, settings-kept, undo-kept}
-pub use Rattle.documents.proofs.NewNameLaws.{AreNamed, named-carried, named-peer, named-same}
+pub use Rattle.documents.proofs.NewNameLaws.{AreNamed, among-append, named-carried, named-peer, named-same}
 pub use Rattle.documents.proofs.OptionLeadLaws.{leads-first, leads-left, leads-peer, leads-settings, own-lines}
 pub use Rattle.documents.proofs.ToldPlaceLaws.{deleted-taken, inserted-taken, placed-active, refused-taken}
 pub use Rattle.documents.proofs.ToldPlaceLaws.{replaced-taken, still-taken}

@@ -1,5 +1,5 @@
 ghost use Rattle.std.specs.Prelude.{◌≡◌, ◌<◌, ◌≤◌, ◌↔◌, ◌∷◌, [], ◌++◌, length, take, slice_get, chars, string_bytes};
-ghost use Rattle.std.specs.Prelude.{None, Some, Ok, Err, IsNone, IfOk, IfErr, IfSome, OnErr};
+ghost use Rattle.std.specs.Prelude.{None, Some, Ok, Err, IsNone, IfOk, IfErr, IfSome, OnOk, OnErr};
 ghost use Rattle.std.specs.Option.{option_map};
 ghost use Rattle.tag_table.specs.Kept.{place_above, place_below, slot_of_number};
 ghost use Rattle.tag_table.specs.Priority.{raised, lowered, deleted};
@@ -56,8 +56,6 @@ impl TagTable {
           limit = limits.now.tags;
         }) }
     {
-        // Where one of the limits is read, all are known to be in their bounds.
-        let _chars = limits.chars();
         let mut names = NameList::new(alloc, limits.tags() + 1)?;
         names.create(String::from_str(alloc, SEL)?)?;
         Ok(TagTable { names })
@@ -112,6 +110,7 @@ impl TagTable {
         // To take it out again gives back the tags before it.
         ensures back { IfOk result (λ made. IfSome made (λ _. deleted (chars (string_bytes name)) self.new.tags
             ≡ self.old.tags)) }
+        ensures sound { OnOk result (AreTags self.new) }
         ensures err { OnErr result (self.new ≡ self.old) }
     {
         let Some(number) = self.names.create(name)? else {
@@ -128,6 +127,7 @@ impl TagTable {
             raised (chars name.now) (option_map (λ other. chars other.now) above.entry) self.old.tags ≡ Err fault) }
         ensures err { OnErr result (self.new ≡ self.old) }
         ensures limit { self.new.limit ≡ self.old.limit }
+        ensures sound { OnOk result (AreTags self.new) }
     {
         let Some(from) = self.names.place(name) else {
             return Err(NoSuchTag::Moved);
@@ -145,6 +145,7 @@ impl TagTable {
             lowered (chars name.now) (option_map (λ other. chars other.now) below.entry) self.old.tags ≡ Err fault) }
         ensures err { OnErr result (self.new ≡ self.old) }
         ensures limit { self.new.limit ≡ self.old.limit }
+        ensures sound { OnOk result (AreTags self.new) }
     {
         let Some(from) = self.names.place(name) else {
             return Err(NoSuchTag::Moved);

@@ -96,28 +96,32 @@ impl Limits {
 
     /// How many tags besides `sel` a text may have.
     pub fn tags(&self) -> u16
-        ensures { result ≡ self.now.tags }
+        ensures value { result ≡ self.now.tags }
+        ensures bounds { AreLimits self.now }
     {
         self.tags
     }
 
     /// How many shared marks a text may have.
     pub fn marks(&self) -> u16
-        ensures { result ≡ self.now.marks }
+        ensures value { result ≡ self.now.marks }
+        ensures bounds { AreLimits self.now }
     {
         self.marks
     }
 
     /// How many widgets there may be.
     pub fn widgets(&self) -> u16
-        ensures { result ≡ self.now.widgets }
+        ensures value { result ≡ self.now.widgets }
+        ensures bounds { AreLimits self.now }
     {
         self.widgets
     }
 
     /// How many reads a script may take.
     pub fn reads(&self) -> u32
-        ensures { result ≡ self.now.reads }
+        ensures value { result ≡ self.now.reads }
+        ensures bounds { AreLimits self.now }
     {
         self.reads
     }

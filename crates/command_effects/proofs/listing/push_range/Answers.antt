@@ -1,5 +1,4 @@
-use Rattle.command_effects.proofs.Common.{[], ◌∷◌, string_bytes, shown, goes_on, position_text}
-use Rattle.std.proofs.lemmas.Result.{on_ok_weaker}
+use Rattle.command_effects.proofs.Common.{[], ◌∷◌, string_bytes, shown, goes_on, position_text, on_ok_weaker}
 use Rattle.command_effects.proofs.listing.push_range.Goals as goal
 
 pub returns : goal.returns

@@ -1,6 +1,5 @@
 use Rattle.command_effects.proofs.Common.{◌≡◌, ap, sym, ◌∙◌, subst, refl, chars, string_bytes, None, IsNone, Tags}
-use Rattle.command_effects.proofs.Common.{names_of, slot_of, IsFull, TagSlot, IsFront, ◌++◌, ◌∷◌, []}
-use Rattle.std.specs.Option.{option_map}
+use Rattle.command_effects.proofs.Common.{names_of, slot_of, IsFull, TagSlot, IsFront, ◌++◌, ◌∷◌, [], option_map}
 use Rattle.command_effects.proofs.MadeLaws.{with_name-known, with_name-full, with_name-made, slot_made, front_more}
 use Rattle.command_effects.proofs.MadeLaws.{front_same, of_some}
 use Rattle.command_effects.proofs.tagging.make_tag.Goals as goal

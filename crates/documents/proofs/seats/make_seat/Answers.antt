@@ -1,11 +1,7 @@
-use Rattle.documents.proofs.Common.{Result, Ok, Err, OnErr, append-nil, refl, sym}
-use Rattle.std.proofs.lemmas.Result.{IfOk-from_err}
+use Rattle.documents.proofs.Common.{append-nil, refl, sym, IfOk-from_err}
+use Rattle.documents.proofs.ResultLaws.{on_err}
 use Rattle.documents.proofs.SeatLaws.{seat-put, seats-same}
 use Rattle.documents.proofs.seats.make_seat.Goals as goal
-
-on_err : {A E P : Type 0} (result : Result A E) → P → OnErr result P
-on_err (Ok value) holds = tt
-on_err (Err error) holds = holds
 
 pub returns-in_err-from_str : goal.returns-in_err-from_str
 returns-in_err-from_str g c =
@@ -106,4 +102,5 @@ returns-clause-last g c =
 
 pub returns-clause-front : goal.returns-clause-front
 returns-clause-front g c =
-    (seat-put c.args.seats.now c.create.new.self c.in-Some.is c.in_ok-from_str.ensures.ok c.in_ok-slot.ensures.last).front
+    (seat-put c.args.seats.now c.create.new.self c.in-Some.is c.in_ok-from_str.ensures.ok
+    c.in_ok-slot.ensures.last).front

@@ -1,9 +1,7 @@
-use Rattle.documents.proofs.Common.{ℕ, ◌+◌, ◌<◌, ◌≤◌, true, length, refl, sym, subst, ap, ◌∙◌, arith, nat_tests}
-use Rattle.documents.proofs.Common.{with_name, Ok, Empty, TooManyTags, All, known_tags, sel, slot_of, log_of, SpanFits}
-use Rattle.documents.proofs.Common.{tagged, widget_at, parts_of, Stands, add_spans, chars, take, Foretells, TellsTags}
-use Rattle.documents.proofs.Common.{with_tag, key_of}
-use Rattle.tag_table.specs.Tags.{names_of}
-use Rattle.documents.proofs.ChangeLaws.{Leaves, does-left, leaves-left}
+use Rattle.documents.proofs.Common.{ℕ, true, length, refl, sym, subst, ap, ◌∙◌, refused, Ok, Empty, All, known_tags}
+use Rattle.documents.proofs.Common.{sel, slot_of, log_of, SpanFits, tagged, widget_at, parts_of, Stands, add_spans}
+use Rattle.documents.proofs.Common.{chars, take, Foretells, TellsTags, with_tag, key_of}
+use Rattle.documents.proofs.ChangeLaws.{Leaves, leaves-left}
 use Rattle.documents.proofs.InsertionLaws.{stands-back}
 use Rattle.documents.proofs.PartsLaws.{cells-kept, sits, stand}
 use Rattle.documents.proofs.SpanLaws.{added-left, found_by, leaves-added}
@@ -46,9 +44,6 @@ left g c =
     let stands = stand c.self.invariant c.self.view_is in
     let found = found_by (λ slot. tagged slot true c.deref-2.result.now parts.content)
     (known_tags new.tags.tags widget word) (g.S.TextStore.content new.text.store) c.in-Ok.ensures.ok in
-    let few = sym c.is_one_too_many.ensures.value ∙ c.if-is_one_too_many.false in
-    let room : length (with_name (names_of parts.tags.tags) word)
-    ≤ c.args.caller.now.limits.now.tags + 1 = grind (arith, nat_tests, few) in
     leaves-added c.args.caller.now.limits.now c.args.places.now stands
     (sits c.args.caller.now.seat stands c.number-number.ensures.value) (record {
       slot = found.0;
@@ -57,7 +52,7 @@ left g c =
       is = found.1;
       fit = fit g (goal.at.returns-in-Ok-clause-does g c).After-deref-2;
       content_is = found.2;
-    }) c.in-Ok.ensures.log c.deref-2.ensures.value c.in_ok-spans.ensures.value c.in-Ok.ensures.made room
+    }) c.in-Ok.ensures.log c.deref-2.ensures.value c.in_ok-spans.ensures.value c.in-Ok.ensures.made c.in-Ok.ensures.few
 
 pub invariant_of-self : goal.invariant_of-self
 invariant_of-self g c = rw c.in-Ok.ensures.anchors (left g c).sound
@@ -90,23 +85,8 @@ invariant_of-self-in-Err g c = rw c.in-Err.ensures.anchors (back g c).sound
 
 pub returns-clause-does : goal.returns-clause-does
 returns-clause-does g c =
+    let limits = c.args.caller.now.limits.now in
     rw c.in-Err.ensures.anchors (leaves-left (back g (goal.at.returns-clause-does g c).After-truncate) (λ other.
-    absurd (other c.in-Err.ensures.fault))).does
-
-pub returns-then-is_one_too_many-clause-does : goal.returns-then-is_one_too_many-clause-does
-returns-then-is_one_too_many-clause-does g c =
-    let full = sym c.is_one_too_many.ensures.value ∙ c.if-is_one_too_many.true in
-    let many : c.args.caller.now.limits.now.tags + 1
-    < length (with_name (names_of c.self.inside.tags.tags) (chars c.args.name.now)) = grind (arith, nat_tests, full) in
-    let stands = stand c.self.invariant c.self.view_is in
-    does-left c.args.caller.now.limits.now c.args.self.now c.args.self.now TooManyTags
-    (add_spans c.args.caller.now.limits.now c.args.self.now (widget_at c.args.self.now c.args.caller.now.seat) (chars c.args.name.now)
-    c.args.places.now) refl
-    (λ _. added-left c.args.caller.now.limits.now c.args.caller.now.seat (chars c.args.name.now) c.args.places.now stands many)
-
-pub tag_spans-tagged-requires-clause-few : goal.tag_spans-tagged-requires-clause-few
-tag_spans-tagged-requires-clause-few g c =
-    let few = sym c.is_one_too_many.ensures.value ∙ c.if-is_one_too_many.false in
-    let room : length (with_name (names_of c.self.inside.tags.tags) (chars c.args.name.now))
-    ≤ c.args.caller.now.limits.now.tags + 1 = grind (arith, nat_tests, few) in
-    omega (arith, room, c.is_one_too_many.ensures.bounds.tags)
+    let found = c.in-Err.ensures.fault other in
+    added-left limits c.args.caller.now.seat (chars c.args.name.now) c.args.places.now
+    (stand c.self.invariant c.self.view_is) found.1 ∙ ap (refused c.args.self.now) (sym found.0))).does

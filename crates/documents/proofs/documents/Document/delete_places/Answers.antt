@@ -1,15 +1,18 @@
 use Rattle.documents.proofs.Common.{◌≡◌, ap, ◌∙◌, All, LimitTable, Ok, Empty, SpanFits, deleted, log_of, state_of}
 use Rattle.documents.proofs.Common.{delete_places, spans_shown, widget_at, parts_of, recording_of, Content, Document}
 use Rattle.documents.proofs.Common.{map, sym, Span, State, deletion, runs_below, delete_set, in_spans, deletions_in}
+use Rattle.documents.proofs.Common.{Stands, refl, edit_fault, IfOk-from_err}
 use Rattle.documents.proofs.ChangeLaws.{Leaves, some_limits}
 use Rattle.documents.proofs.DeltaLaws.{planned-made, told-planned}
 use Rattle.documents.proofs.PartsLaws.{anchors-there, cells-kept, characters-kept, pairs_of, stand}
 use Rattle.documents.proofs.RemovalLaws.{leaves-places}
 use Rattle.documents.proofs.SpanLaws.{places-within, spans-in}
-use Rattle.documents.proofs.StateLaws.{state_in, with_state}
+use Rattle.documents.proofs.StateLaws.{stands-unedited, state_in, with_state}
+use Rattle.documents.proofs.ToldLaws.{does-refused}
 use Rattle.documents.proofs.ViewLaws.{IsSeen, active-found, end-found-is, see-ends, start-found-is}
 use Rattle.documents.proofs.documents.Document.delete_places.Given.{Over}
 use Rattle.documents.proofs.documents.Document.delete_places.Goals.{After-deref-3, After-drop-spans-2, After-end_of-end}
+use Rattle.documents.proofs.documents.Document.delete_places.Goals.{After-plan_delete}
 use Rattle.documents.proofs.documents.Document.delete_places.Goals as goal
 
 pub start_of-start-requires : goal.start_of-start-requires
@@ -102,3 +105,45 @@ returns-clause-told g c = λ follows.
     (ap (λ (content : Content). content.cells) c.in_ok-plan.ensures.same.0)
     (ap (λ (state : State). state.content.cells) c.commit.ensures)
     follows same c.in_ok-plan.ensures.delta (ap (λ (d : Document). d.cells) c.self.view_is)
+
+pub returns-in_err-spans : goal.returns-in_err-spans
+returns-in_err-spans g c =
+    let memory = c.from_residual.ensures in
+    record {
+      does = λ limits. does-refused c.from_residual.result memory refl refl;
+      told = λ _. IfOk-from_err c.from_residual.result _ memory.0;
+    }
+
+-- the plan alone changes nothing
+unplanned : (g : Over) (c : After-plan_delete g)
+    → Stands (with_state (parts_of g.S.TextStore.content c.self.inside) (state_of
+    (g.S.TextStore.content c.plan_delete.new.text.store) c.plan_delete.new.text.anchors.items
+    (log_of c.plan_delete.new.text.history))) c.args.self.now
+unplanned g c =
+    let same = c.plan_delete.ensures.same in
+    stands-unedited (stand c.self.invariant c.self.view_is) same.0 same.1 same.2
+
+pub invariant_of-self : goal.invariant_of-self
+invariant_of-self g c = (unplanned g (goal.at.invariant_of-self g c).After-plan_delete).sound
+
+pub returns-in_err-plan : goal.returns-in_err-plan
+returns-in_err-plan g c =
+    let fails = c.from_residual-in_err-plan.ensures in
+    record {
+      does = λ limits. does-refused c.from_residual-in_err-plan.result fails
+          (ap edit_fault c.in_err-plan.ensures.refused)
+          (unplanned g (goal.at.returns-in_err-plan g c).After-plan_delete).is;
+      told = λ _. IfOk-from_err c.from_residual-in_err-plan.result _ fails.0;
+    }
+
+pub invariant_of-self-in_err-told : goal.invariant_of-self-in_err-told
+invariant_of-self-in_err-told g c = (unplanned g (goal.at.invariant_of-self-in_err-told g c).After-plan_delete).sound
+
+pub returns-in_err-told : goal.returns-in_err-told
+returns-in_err-told g c =
+    let memory = c.from_residual-in_err-told.ensures in
+    record {
+      does = λ limits. does-refused c.from_residual-in_err-told.result memory refl
+          (unplanned g (goal.at.returns-in_err-told g c).After-plan_delete).is;
+      told = λ _. IfOk-from_err c.from_residual-in_err-told.result _ memory.0;
+    }

@@ -1,15 +1,18 @@
 use Rattle.documents.proofs.Common.{box_value, ◌≡◌, ◌*◌, Some, Empty, Ok, ap, sym, subst, ◌∙◌, next_undo, Action, true}
 use Rattle.documents.proofs.Common.{List, log_of, state_of, widget_at, parts_of, edit_undo, replays, IfSome, length}
 use Rattle.documents.proofs.Common.{AreHunks, Content, is_some, Document, not, State, some_is, KnowsDelta, AreScalars}
+use Rattle.documents.proofs.Common.{IfOk-from_err, NothingToUndo, Stands, refl}
 use Rattle.edit_ops.specs.Reversals.{undone}
-use Rattle.documents.proofs.ChangeLaws.{Leaves}
+use Rattle.documents.proofs.BackLaws.{undo-idle, undo-none, undo-off}
+use Rattle.documents.proofs.ChangeLaws.{Leaves, does-left, does-nothing}
 use Rattle.documents.proofs.DeltaLaws.{known-stand, planned-made, told-planned}
 use Rattle.documents.proofs.PartsLaws.{pairs_of, sits, stand}
 use Rattle.documents.proofs.ReversalLaws.{CanRevert, leaves-undone, undone-edits}
-use Rattle.documents.proofs.StateLaws.{anchors-stand, state_in, with_state}
+use Rattle.documents.proofs.StateLaws.{anchors-stand, stands-unedited, state_in, with_state}
+use Rattle.documents.proofs.ToldLaws.{does-refused, told-idle}
 use Rattle.documents.proofs.WellFormedLaws.{fits-kept}
 use Rattle.documents.proofs.documents.Document.edit_undo.Given.{Over}
-use Rattle.documents.proofs.documents.Document.edit_undo.Goals.{In_ok-plan, After-commit}
+use Rattle.documents.proofs.documents.Document.edit_undo.Goals.{After-plan_undo, In_ok-plan, After-commit}
 use Rattle.documents.proofs.documents.Document.edit_undo.Goals as goal
 
 pub plan_undo-requires-clause-stand : goal.plan_undo-requires-clause-stand
@@ -93,3 +96,71 @@ returns-clause-told g c = λ follows.
     c.in_ok-told.ensures c.take-delta.ensures.value (ap (λ (content : Content). content.cells) c.in_ok-plan.ensures.same.0)
     (ap (λ (state : State). state.content.cells) c.commit.ensures) follows
     (undone-edits (can g at) (found g at).1) (knows g at) (ap (λ (d : Document). d.cells) c.self.view_is)
+
+pub returns-then-not-self : goal.returns-then-not-self
+returns-then-not-self g c =
+    let document = c.args.self.now in
+    let off = ap (λ (d : Document). d.undo) (sym c.self.view_is) ∙ c.if-not-self.true in
+    let is = undo-off document (widget_at document c.args.caller.now.seat) off in
+    record {
+      does = does-nothing c.args.caller.now.limits.now document _ is;
+      told = λ _. told-idle document _ is c.nothing.ensures;
+    }
+
+pub returns-then-is_none : goal.returns-then-is_none
+returns-then-is_none g c =
+    let document = c.args.self.now in
+    let on = ap (λ (d : Document). d.undo) (sym c.self.view_is) ∙ c.if-not-self.false in
+    let none = ap (λ (d : Document). is_some (next_undo d.history)) (sym c.self.view_is)
+    ∙ ap is_some (sym c.last_undo.ensures) ∙ c.is_none.ensures ∙ ap not c.if-is_none.true in
+    record {
+      does = does-left c.args.caller.now.limits.now document document NothingToUndo _ refl
+          (λ _. undo-none document (widget_at document c.args.caller.now.seat) on none);
+      told = λ _. tt;
+    }
+
+pub returns-then-is_idle : goal.returns-then-is_idle
+returns-then-is_idle g c =
+    let document = c.args.self.now in
+    let on = ap (λ (d : Document). d.undo) (sym c.self.view_is) ∙ c.if-not-self.false in
+    let some = ap (λ (d : Document). is_some (next_undo d.history)) (sym c.self.view_is)
+    ∙ ap is_some (sym c.last_undo.ensures) ∙ c.is_none.ensures ∙ ap not c.if-is_none.false in
+    let is = undo-idle document (widget_at document c.args.caller.now.seat) on some
+    (sym c.is_idle.ensures ∙ c.if-is_idle.true) in
+    record {
+      does = does-nothing c.args.caller.now.limits.now document _ is;
+      told = λ _. told-idle document _ is c.nothing-then-is_idle.ensures;
+    }
+
+-- the plan alone changes nothing
+unplanned : (g : Over) (c : After-plan_undo g)
+    → Stands (with_state (parts_of g.S.TextStore.content c.self.inside) (state_of
+    (g.S.TextStore.content c.plan_undo.new.text.store) c.plan_undo.new.text.anchors.items
+    (log_of c.plan_undo.new.text.history))) c.args.self.now
+unplanned g c =
+    let same = c.plan_undo.ensures.same in
+    stands-unedited (stand c.self.invariant c.self.view_is) same.0 same.1 same.2
+
+pub invariant_of-self : goal.invariant_of-self
+invariant_of-self g c = (unplanned g (goal.at.invariant_of-self g c).After-plan_undo).sound
+
+pub returns-in_err-plan : goal.returns-in_err-plan
+returns-in_err-plan g c =
+    let memory = c.from_residual.ensures in
+    record {
+      does = does-refused c.from_residual.result memory refl
+          (unplanned g (goal.at.returns-in_err-plan g c).After-plan_undo).is;
+      told = λ _. IfOk-from_err c.from_residual.result _ memory.0;
+    }
+
+pub invariant_of-self-in_err-told : goal.invariant_of-self-in_err-told
+invariant_of-self-in_err-told g c = (unplanned g (goal.at.invariant_of-self-in_err-told g c).After-plan_undo).sound
+
+pub returns-in_err-told : goal.returns-in_err-told
+returns-in_err-told g c =
+    let memory = c.from_residual-in_err-told.ensures in
+    record {
+      does = does-refused c.from_residual-in_err-told.result memory refl
+          (unplanned g (goal.at.returns-in_err-told g c).After-plan_undo).is;
+      told = λ _. IfOk-from_err c.from_residual-in_err-told.result _ memory.0;
+    }

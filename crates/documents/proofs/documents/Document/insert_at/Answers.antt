@@ -1,16 +1,16 @@
 use Rattle.documents.proofs.Common.{ap, ◌∙◌, arith, map, take, sel, slot_of, inserted_texts, log_of, Ok, Empty}
 use Rattle.documents.proofs.Common.{state_of, piece_of, widget_at, parts_of, Stands, insert_at, length, key_pairs}
-use Rattle.documents.proofs.Common.{Content, State}
+use Rattle.documents.proofs.Common.{Content, State, refl, Memory}
 use Rattle.undo_stack.specs.declared.actions.EditKind.TheVariants.{Insert}
-use Rattle.documents.proofs.ChangeLaws.{Leaves, leaves-left}
-use Rattle.documents.proofs.DeltaLaws.{planned-made, told-planned}
+use Rattle.documents.proofs.ChangeLaws.{Leaves, does-left, leaves-left}
+use Rattle.documents.proofs.DeltaLaws.{planned-made, taken-stand, told-planned}
 use Rattle.documents.proofs.InsertionLaws.{leaves-put, put-left, stands-back, with_tags}
 use Rattle.documents.proofs.PartsLaws.{cells-kept, sits, stand}
 use Rattle.documents.proofs.PlannedLaws.{insertion-edits, keyed-before}
 use Rattle.documents.proofs.StateLaws.{anchors-stand, state_in, with_state}
 use Rattle.documents.proofs.documents.Document.insert_at.Given.{Over}
 use Rattle.documents.proofs.documents.Document.insert_at.Goals.{After-truncate, After-truncate-in-Err-report}
-use Rattle.documents.proofs.documents.Document.insert_at.Goals.{After-commit}
+use Rattle.documents.proofs.documents.Document.insert_at.Goals.{After-commit, in-Some-1, in-None-2}
 use Rattle.documents.proofs.documents.Document.insert_at.Goals as goal
 
 pub plan_pairs-planned-requires-clause-within : goal.plan_pairs-planned-requires-clause-within
@@ -56,6 +56,17 @@ report-requires-clause-short g c =
     let long = ap (λ (content : Content). length content.cells) c.in-Ok.ensures.same.0 in
     let short = c.self.invariant.kept.short in
     omega (arith, long, short)
+
+pub report-requires-clause-stand : goal.report-requires-clause-stand
+report-requires-clause-stand g c =
+    let plan = c.in-Ok.ensures in
+    taken-stand _ _ _ _ plan.delta c.take-delta.ensures.value (ap (λ (content : Content). content.cells) plan.same.0)
+
+pub commit-requires-clause-ready : goal.commit-requires-clause-ready
+commit-requires-clause-ready g c = c.in-Ok.ensures.ready
+
+pub commit-requires-clause-room : goal.commit-requires-clause-room
+commit-requires-clause-room g c = c.in-Ok.ensures.room
 
 -- what is left where the texts are inserted
 left : (g : Over) (c : After-commit g)
@@ -117,3 +128,13 @@ invariant_of-self-in-Err-report g c =
 pub invariant_of-self-in-Err-report-2 : goal.invariant_of-self-in-Err-report-2
 invariant_of-self-in-Err-report-2 g c =
     (unreported g (goal.at.invariant_of-self-in-Err-report-2 g c).After-truncate-in-Err-report).sound
+
+pub returns-in-Err-report-clause-does : goal.returns-in-Err-report-clause-does
+returns-in-Err-report-clause-does g c =
+    let limits = c.args.caller.now.limits.now in
+    let document = c.args.self.now in
+    let same = (unreported g (goal.at.returns-in-Err-report-clause-does g c).After-truncate-in-Err-report).is in
+    elim c.match-plan-3.branch [
+      | in-Some-1 w ↦ does-left limits document c.match-plan-3.self Memory _ (w.self-is ∙ same) (λ other. absurd (other refl))
+      | in-None-2 w ↦ does-left limits document c.match-plan-3.self Memory _ (w.self-is ∙ same) (λ other. absurd (other refl))
+    ]

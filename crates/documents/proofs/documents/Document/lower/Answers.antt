@@ -30,7 +30,7 @@ left g c limits =
           let ordered = lowered-ordered word other old.tags.tags new.tags stands.sound.kept.tags.names_apart
           w.in-Ok.ensures.ok in
           subst P (sym w.result-is) (leaves-ordered limits parts new document c.args.position lowered word other
-          stands ordered w.len-count.ensures.sound w.in-Ok.ensures.limit
+          stands ordered w.in-Ok.ensures.sound w.in-Ok.ensures.limit
           (length-lowered _ word other ordered.known))
       | in-Err-Moved w ↦ subst P (sym w.result-is)
           (does-unordered limits parts new document c.args.position lowered word other Moved stands

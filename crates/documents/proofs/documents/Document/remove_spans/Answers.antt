@@ -1,14 +1,15 @@
 use Rattle.documents.proofs.Common.{ℕ, false, length, sym, subst, chars, All, LimitTable, Ok, Empty, log_of, SpanFits}
 use Rattle.documents.proofs.Common.{front_same, parts_of, remove_spans, widget_at, Foretells, TellsTags, with_tag}
-use Rattle.documents.proofs.Common.{key_of}
+use Rattle.documents.proofs.Common.{key_of, Stands, refl, state_of, IfOk-from_err}
 use Rattle.documents.proofs.ChangeLaws.{Leaves, some_limits}
+use Rattle.documents.proofs.StateLaws.{stands-unedited, with_state}
 use Rattle.documents.proofs.PartsLaws.{cells-kept, sits, stand}
 use Rattle.documents.proofs.SpanLaws.{does-remove_none, leaves-removed}
 use Rattle.documents.proofs.SpanToldLaws.{foretells-removed}
 use Rattle.documents.proofs.TableLaws.{relogged, retagged}
-use Rattle.documents.proofs.ToldLaws.{told-made}
+use Rattle.documents.proofs.ToldLaws.{does-refused, told-made}
 use Rattle.documents.proofs.documents.Document.remove_spans.Given.{Over}
-use Rattle.documents.proofs.documents.Document.remove_spans.Goals.{After-deref-2, After-drop-spans-2}
+use Rattle.documents.proofs.documents.Document.remove_spans.Goals.{After-deref-2, After-drop-spans-2, In_err-set_slot}
 use Rattle.documents.proofs.documents.Document.remove_spans.Goals as goal
 
 pub returns-in_default-clause-does : goal.returns-in_default-clause-does
@@ -61,3 +62,40 @@ returns-clause-told g c = λ follows.
     c.in_ok-tags.tags c.in_ok-spans.ensures.value c.in_ok-spans.ensures.fit
     (subst (λ spans. TellsTags c.in_ok-tags.tags document.cells (with_tag (key_of widget name) false spans document.cells))
     c.deref.ensures.value (c.in_ok-tags.ensures.tells follows)) c.in_ok-tags.ensures.gapped))
+
+pub returns-in_err-spans : goal.returns-in_err-spans
+returns-in_err-spans g c =
+    let memory = c.from_residual.ensures in
+    record {
+      does = λ limits. does-refused c.from_residual.result memory refl refl;
+      told = λ _. IfOk-from_err c.from_residual.result _ memory.0;
+    }
+
+pub returns-in_err-tags : goal.returns-in_err-tags
+returns-in_err-tags g c =
+    let memory = c.from_residual-in_err-tags.ensures in
+    record {
+      does = λ limits. does-refused c.from_residual-in_err-tags.result memory refl refl;
+      told = λ _. IfOk-from_err c.from_residual-in_err-tags.result _ memory.0;
+    }
+
+-- the tag that couldn't be taken off changes nothing
+unset : (g : Over) (c : In_err-set_slot g)
+    → Stands (with_state (parts_of g.S.TextStore.content c.self.inside) (state_of
+    (g.S.TextStore.content c.set_slot.new.text.store) c.set_slot.new.text.anchors.items
+    (log_of c.set_slot.new.text.history))) c.args.self.now
+unset g c =
+    let kept = c.in_err-set_slot.ensures in
+    stands-unedited (stand c.self.invariant c.self.view_is) kept.err kept.log kept.anchors
+
+pub invariant_of-self : goal.invariant_of-self
+invariant_of-self g c = (unset g (goal.at.invariant_of-self g c).In_err-set_slot).sound
+
+pub returns-in_err-set_slot : goal.returns-in_err-set_slot
+returns-in_err-set_slot g c =
+    let fails = c.from_residual-in_err-set_slot.ensures in
+    record {
+      does = λ limits. does-refused c.from_residual-in_err-set_slot.result fails c.in_err-set_slot.ensures.fault
+          (unset g (goal.at.returns-in_err-set_slot g c).In_err-set_slot).is;
+      told = λ _. IfOk-from_err c.from_residual-in_err-set_slot.result _ fails.0;
+    }

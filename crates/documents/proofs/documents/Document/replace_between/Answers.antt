@@ -1,18 +1,19 @@
 use Rattle.documents.proofs.Common.{◌+◌, ◌-◌, ◌*◌, ap, ◌∙◌, arith, map, take, sel, slot_of, log_of, Ok, Empty, state_of}
 use Rattle.documents.proofs.Common.{piece_of, widget_at, parts_of, Stands, length, Content, State, key_pairs}
-use Rattle.documents.proofs.Common.{insertion_offset}
+use Rattle.documents.proofs.Common.{insertion_offset, refl, Memory}
 use Rattle.edit_ops.specs.Removals.{replaced}
-use Rattle.documents.proofs.ChangeLaws.{Leaves, leaves-left}
+use Rattle.documents.proofs.ChangeLaws.{Leaves, does-left, leaves-left}
 use Rattle.documents.proofs.InsertionLaws.{stands-back, with_tags}
 use Rattle.documents.proofs.PartsLaws.{anchors-there, characters-kept, stand}
 use Rattle.documents.proofs.ReplacementLaws.{cut-at, leaves-replaced, replace-left, replaced_at}
 use Rattle.documents.proofs.StateLaws.{anchors-stand, state_in, with_state}
-use Rattle.documents.proofs.DeltaLaws.{planned-made, told-planned}
+use Rattle.documents.proofs.DeltaLaws.{planned-made, taken-stand, told-planned}
 use Rattle.documents.proofs.PlannedLaws.{keyed-before, replacement-edits}
 use Rattle.documents.proofs.ViewLaws.{IsSeen, active-found, ends-found, length-found, ordered-found, see-ends}
 use Rattle.documents.proofs.documents.Document.replace_between.Given.{Over}
 use Rattle.documents.proofs.documents.Document.replace_between.Goals.{After-end_of-last, After-truncate, After-commit}
-use Rattle.documents.proofs.documents.Document.replace_between.Goals.{After-truncate-in-Err-report}
+use Rattle.documents.proofs.documents.Document.replace_between.Goals.{After-truncate-in-Err-report, in-Some-1}
+use Rattle.documents.proofs.documents.Document.replace_between.Goals.{in-None-2}
 use Rattle.documents.proofs.documents.Document.replace_between.Goals as goal
 
 pub start_of-start-requires : goal.start_of-start-requires
@@ -101,6 +102,17 @@ report-requires-clause-short g c =
     let short = c.self.invariant.kept.short in
     omega (arith, long, short)
 
+pub report-requires-clause-stand : goal.report-requires-clause-stand
+report-requires-clause-stand g c =
+    let plan = c.in-Ok.ensures in
+    taken-stand _ _ _ _ plan.delta c.take-delta.ensures.value (ap (λ (content : Content). content.cells) plan.same.0)
+
+pub commit-requires-clause-ready : goal.commit-requires-clause-ready
+commit-requires-clause-ready g c = c.in-Ok.ensures.ready
+
+pub commit-requires-clause-room : goal.commit-requires-clause-room
+commit-requires-clause-room g c = c.in-Ok.ensures.room
+
 -- what is left where the texts are in place
 left : (g : Over) (c : After-commit g)
     → Leaves c.args.caller.now.limits.now (with_state (with_tags c.plan_replacement-planned.new.tags
@@ -168,3 +180,13 @@ invariant_of-self-in-Err-report g c =
 pub invariant_of-self-in-Err-report-2 : goal.invariant_of-self-in-Err-report-2
 invariant_of-self-in-Err-report-2 g c =
     (unreported g (goal.at.invariant_of-self-in-Err-report-2 g c).After-truncate-in-Err-report).sound
+
+pub returns-in-Err-report-clause-does : goal.returns-in-Err-report-clause-does
+returns-in-Err-report-clause-does g c =
+    let limits = c.args.caller.now.limits.now in
+    let document = c.args.self.now in
+    let same = (unreported g (goal.at.returns-in-Err-report-clause-does g c).After-truncate-in-Err-report).is in
+    elim c.match-plan-3.branch [
+      | in-Some-1 w ↦ does-left limits document c.match-plan-3.self Memory _ (w.self-is ∙ same) (λ other. absurd (other refl))
+      | in-None-2 w ↦ does-left limits document c.match-plan-3.self Memory _ (w.self-is ∙ same) (λ other. absurd (other refl))
+    ]

@@ -1,13 +1,23 @@
 use Rattle.documents.proofs.Common.{◌≡◌, ◌+◌, ◌≤◌, length, refl, sym, subst, ◌∙◌, chars, length-map, All-weaker, flags}
 use Rattle.documents.proofs.Common.{SpanFits, Span, KeyedCell, widget_at, with_tag, parts_of, Stands, key_of, AreGapped}
-use Rattle.documents.proofs.Common.{TellsSpans, TellsTags, flags_of, AreApart}
+use Rattle.documents.proofs.Common.{TellsSpans, TellsTags, flags_of, AreApart, true≢false, IfOk-from_err}
 use Rattle.documents.proofs.AddedRunLaws.{gapped-alone}
-use Rattle.documents.proofs.PartsLaws.{sits}
+use Rattle.documents.proofs.PartsLaws.{cells-kept, sits}
 use Rattle.documents.proofs.SpanToldLaws.{runs-told, seen-flags, seen-named, seen-none}
 use Rattle.documents.proofs.documents.Document.span_tags.Goals.{in-Some+in_ok-push_spans-in-Some}
 use Rattle.documents.proofs.documents.Document.span_tags.Goals.{in-None+in_ok-push_whole-in-None}
 use Rattle.std.specs.FinSet as set
 use Rattle.documents.proofs.documents.Document.span_tags.Goals as goal
+
+pub push_spans-requires-clause-apart : goal.push_spans-requires-clause-apart
+push_spans-requires-clause-apart g c =
+    let long = length c.args.self.now.cells in
+    let apart = c.in_ok-runs.ensures.apart long
+    (All-weaker (SpanFits long) (λ (span : Span). span.to ≤ long) (λ span fits. fits.within) c.args.spans.now
+    c.requires.fit) in
+    subst (λ n. AreApart (n + 1) c.deref.result.now)
+    (cells-kept (parts_of g.S.TextStore.content c.self.inside) c.args.self.now c.self.view_is)
+    (subst (AreApart (long + 1)) (sym c.deref.ensures.value) apart)
 
 pub returns-clause-tells : goal.returns-clause-tells
 returns-clause-tells g c = λ follows.
@@ -71,3 +81,33 @@ returns-clause-gapped g c =
           (All-weaker (SpanFits long) (λ (span : Span). span.to ≤ long) (λ span fits. fits.within) c.args.spans.now
           c.requires.fit)))))
     ]
+
+pub returns-in_err-key : goal.returns-in_err-key
+returns-in_err-key g c =
+    let result = c.from_residual.result in
+    let fails = c.from_residual.ensures.0 in
+    record { tells = λ _. IfOk-from_err result _ fails; gapped = IfOk-from_err result _ fails }
+
+pub returns-in_err-runs : goal.returns-in_err-runs
+returns-in_err-runs g c =
+    let result = c.from_residual-in_err-runs.result in
+    let fails = c.from_residual-in_err-runs.ensures.0 in
+    record { tells = λ _. IfOk-from_err result _ fails; gapped = IfOk-from_err result _ fails }
+
+pub returns-in_err-push_spans-in-Some : goal.returns-in_err-push_spans-in-Some
+returns-in_err-push_spans-in-Some g c =
+    let result = c.from_residual-in_err-push_spans-in-Some.result in
+    let fails = c.from_residual-in_err-push_spans-in-Some.ensures.0 in
+    record { tells = λ _. IfOk-from_err result _ fails; gapped = IfOk-from_err result _ fails }
+
+pub returns-in_err-push_whole-in-None : goal.returns-in_err-push_whole-in-None
+returns-in_err-push_whole-in-None g c =
+    let result = c.from_residual-in_err-push_whole-in-None.result in
+    let fails = c.from_residual-in_err-push_whole-in-None.ensures.0 in
+    record { tells = λ _. IfOk-from_err result _ fails; gapped = IfOk-from_err result _ fails }
+
+pub returns-then-not-caller : goal.returns-then-not-caller
+returns-then-not-caller g c = record {
+  tells = λ follows. absurd (true≢false (sym follows ∙ c.if-not-caller.true));
+  gapped = subst AreGapped (sym c.new-told.ensures) tt;
+}

@@ -2,7 +2,8 @@ use Rattle.mark_table.proofs.Common.{◌≡◌, ℕ, List, refl, ap, sym, ◌∙
 use Rattle.mark_table.proofs.Common.{string_bytes, without, Names, Gravity, Right, AreKept, marks_kept}
 use Rattle.mark_table.proofs.Common.{with_gravity_for, Mark, SharedMarks, is_named, number_of, numbers_of, first_number}
 use Rattle.mark_table.proofs.Common.{IsLeastFree}
-use Rattle.mark_table.proofs.MarkLaws.{no_place, place_of_mark, marks-back, marks-push, marks-placed, placed}
+use Rattle.std.specs.Option.{IsNone}
+use Rattle.mark_table.proofs.MarkLaws.{AreMarks-kept, no_place, place_of_mark, marks-back, marks-push, marks-placed, placed}
 use Rattle.mark_table.proofs.MarkLaws.{least_within, AreKept-push, IsLeastFree-number}
 use Rattle.name_list.specs.Names as list
 use Rattle.mark_table.proofs.marks.MarkTable.create.Goals as goal
@@ -75,3 +76,13 @@ returns-clause-back c =
     ∙ marks-back c.args.self.now.marks name (first_number + c.in-Some.number) Right
     (place_of_mark name c.self.inside.names c.self.inside.gravities.items c.args.self.now _ c.self.view_is refl
     ∙ none)
+
+pub returns-in_default-clause-sound : goal.returns-in_default-clause-sound
+returns-in_default-clause-sound c =
+    let same = c.in_ok-number.ensures.refused (subst IsNone (sym c.in_default.is) refl) in
+    AreMarks-kept c.create.new.self c.reserve.new.self.items c.in_ok-number.ensures.sound
+    (rw (same, c.reserve.ensures.items) c.self.invariant)
+
+pub returns-clause-sound : goal.returns-clause-sound
+returns-clause-sound c = AreMarks-kept c.create.new.self c.put_right.new.gravities.items c.in_ok-number.ensures.sound
+    (invariant_of-self-2 c)

@@ -1,5 +1,5 @@
-use Rattle.mark_table.proofs.Common.{ap, sym, ◌∙◌, ◌<◌, length, arith, chars, is_some, SharedMarks, turned}
-use Rattle.mark_table.proofs.MarkLaws.{place_of_mark, no_gravity, gravity_known, marks-turned}
+use Rattle.mark_table.proofs.Common.{ap, sym, slice_set, length-set, ◌∙◌, ◌<◌, length, arith, chars, is_some, SharedMarks, turned}
+use Rattle.mark_table.proofs.MarkLaws.{AreMarks-kept, place_of_mark, no_gravity, gravity_known, marks-turned}
 use Rattle.mark_table.proofs.marks.MarkTable.set_gravity.Goals as goal
 
 pub returns-in_default-clause-known : goal.returns-in_default-clause-known
@@ -26,3 +26,11 @@ returns-clause-ok c =
     c.place.ensures.sound (sym c.place.ensures.value ∙ c.in-Some.is) c.number-number.ensures.value within)
     ∙ ap (λ (ms : SharedMarks). record ms { marks = turned (chars c.args.name.now) c.args.gravity ms.marks })
     c.self.view_is
+
+pub returns-clause-sound : goal.returns-clause-sound
+returns-clause-sound c = AreMarks-kept c.self.inside.names
+    (slice_set c.self.inside.gravities.items c.number-number.result c.args.gravity) c.place.ensures.sound
+    (record {
+      few = c.self.invariant.few;
+      each = λ place number is. let below = c.self.invariant.each place number is in rw length-set below;
+    })

@@ -1,7 +1,7 @@
 use Rattle.name_list.proofs.Common.{◌∙◌, Some, ap, arith, length-set, map, slice_set, subst, sym, values_of, length-map}
-use Rattle.name_list.proofs.Common.{map_push, AreKept, named}
+use Rattle.name_list.proofs.Common.{map_push, AreKept, AreNames, named}
 use Rattle.name_list.proofs.PlaceLaws.{free_below, AreKept-placed, AreKept-push}
-use Rattle.name_list.proofs.ViewLaws.{entries-new, numbers_seen}
+use Rattle.name_list.proofs.ViewLaws.{AreNames-kept, entries-new, numbers_seen}
 use Rattle.name_list.proofs.names.NameList.create.Goals as goal
 
 pub overflow_cast-number : goal.overflow_cast-number
@@ -82,3 +82,12 @@ returns-clause-last c =
     c.self.view_is c.requires c.in_ok-insert.ensures.entries in
     rw (← c.self.view_is) (ap (λ entries. record { entries = entries; limit = inside.limit }) (ap (map named) added
     ∙ map_push named inside.numbers.entries (c.args.name, inside.free)))
+
+pub returns-then-place-self-clause-sound : goal.returns-then-place-self-clause-sound
+returns-then-place-self-clause-sound c = subst AreNames c.self.view_is
+    (AreNames-kept c.self.inside.numbers.entries c.self.inside.places.items c.self.inside.free c.self.inside.limit
+    c.len-place.ensures.unique c.self.invariant)
+
+pub returns-clause-sound : goal.returns-clause-sound
+returns-clause-sound c = AreNames-kept c.insert.new.self.entries _ _ c.self.inside.limit c.in_ok-insert.ensures.unique
+    (invariant_of-self-2 c)

@@ -2,7 +2,7 @@ use Rattle.name_list.proofs.Common.{◌≡◌, length, sym, ap, ◌∙◌, subst
 use Rattle.name_list.proofs.Common.{AreKept, IsIndex, IsIndexTo, named}
 use Rattle.name_list.proofs.PlaceLaws.{AreApart-index, AreApart-move, within_index, stood_before_move, IsIndexTo-move}
 use Rattle.name_list.proofs.PlaceLaws.{AreKept-move, whole_written}
-use Rattle.name_list.proofs.ViewLaws.{map-move_index, number_at}
+use Rattle.name_list.proofs.ViewLaws.{AreNames-kept, map-move_index, number_at}
 use Rattle.name_list.proofs.names.NameList.move_to.Goals as goal
 
 pub note_places-requires-clause-apart : goal.note_places-requires-clause-apart
@@ -54,9 +54,13 @@ invariant_of-self c =
     (AreKept-move _ inside.places.items c.note_places.new.places c.args.from c.args.to _ inside.free inside.limit
     c.self.invariant from.1 to.0 (subst (λ ns. IsIndex ns c.note_places.new.places) moved c.note_places.ensures) same))
 
-pub returns : goal.returns
-returns c =
+pub returns-clause-value : goal.returns-clause-value
+returns-clause-value c =
     let inside = c.self.inside in
     rw (← c.self.view_is) (ap (λ entries. record { entries = entries; limit = inside.limit })
     (ap (map named) c.move_index.ensures.entries
     ∙ map-move_index named inside.numbers.entries c.args.from c.args.to))
+
+pub returns-clause-sound : goal.returns-clause-sound
+returns-clause-sound c = AreNames-kept c.move_index.new.self.entries _ _ c.self.inside.limit
+    c.move_index.ensures.unique (invariant_of-self c)

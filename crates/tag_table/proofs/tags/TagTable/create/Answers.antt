@@ -1,6 +1,6 @@
 use Rattle.tag_table.proofs.Common.{ap, sym, ◌∙◌, subst, map, chars, string_bytes, map_push, Names, AreKept, tag}
-use Rattle.tag_table.proofs.Common.{deleted, Tags, slot_of, slots_of, IsLeastFree}
-use Rattle.tag_table.proofs.TagLaws.{no_place, AreKept-push, IsLeastFree-slot, deleted-push, sel_number}
+use Rattle.tag_table.proofs.Common.{deleted, refl, Tags, slot_of, slots_of, IsLeastFree, IsNone}
+use Rattle.tag_table.proofs.TagLaws.{no_place, AreTags-kept, AreKept-push, IsLeastFree-slot, deleted-push, sel_number}
 use Rattle.tag_table.proofs.tags.TagTable.create.Goals as goal
 
 pub create-requires : goal.create-requires
@@ -29,3 +29,10 @@ returns-clause-back c =
     ∙ ap (deleted name) (map_push tag names.entries (record { name = name; number = c.in-Some.number }))
     ∙ deleted-push names name c.in-Some.number c.self.invariant none
     ∙ ap (λ (ts : Tags). ts.tags) c.self.view_is
+
+pub returns-in_default-clause-sound : goal.returns-in_default-clause-sound
+returns-in_default-clause-sound c = AreTags-kept c.create.new.self c.in_ok-number.ensures.sound
+    (subst AreKept (sym (c.in_ok-number.ensures.refused (subst IsNone (sym c.in_default.is) refl))) c.self.invariant)
+
+pub returns-clause-sound : goal.returns-clause-sound
+returns-clause-sound c = AreTags-kept c.create.new.self c.in_ok-number.ensures.sound (invariant_of-self-2 c)

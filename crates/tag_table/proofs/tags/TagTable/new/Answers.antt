@@ -12,8 +12,8 @@ invariant_of-result c =
       limit = c.tags.result + 1;
     } = first_name c.in_ok-names.names c.create.new.self c.tags.result _
     c.in_ok-create.field-0 c.in_ok-names.ensures h.full.0 h.least h.last in
-    let few = c.chars-chars.ensures.bounds.tags in
-    let count = c.tags.ensures in
+    let few = c.tags.ensures.bounds.tags in
+    let count = c.tags.ensures.value in
     subst AreKept (sym made) (record {
       some = omega arith;
       few = omega arith;
@@ -35,4 +35,4 @@ returns c =
     c.in_ok-create.field-0 c.in_ok-names.ensures h.full.0 h.least h.last in
     ap tags_kept made ∙ ap₂ (λ name limit. record { tags = record { name = name; slot = 0 } ∷ []; limit = limit })
     (ap chars c.in_ok-from_str.ensures.ok ∙ chars_of_sel) (let less : c.tags.result + 1 - 1
-    ≡ c.tags.result = omega arith in less ∙ c.tags.ensures)
+    ≡ c.tags.result = omega arith in less ∙ c.tags.ensures.value)

@@ -1,6 +1,6 @@
 use Rattle.tag_table.proofs.Common.{ap, sym, ◌∙◌, Ok, map, length, ◌<◌, subst, chars, length-map, err_from_is_err_and}
 use Rattle.tag_table.proofs.Common.{map-move_index, move_index, Names, AreKept, tag, Tags}
-use Rattle.tag_table.proofs.TagLaws.{place_of_tag, raised-unknown, raised-to, raised-fault, AreKept-move}
+use Rattle.tag_table.proofs.TagLaws.{place_of_tag, AreTags-kept, raised-unknown, raised-to, raised-fault, AreKept-move}
 use Rattle.tag_table.proofs.tags.TagTable.raise.Goals as goal
 
 pub returns-in_default-clause-fault : goal.returns-in_default-clause-fault
@@ -19,7 +19,7 @@ returns-in_err-to-clause-fault c =
 pub invariant_of-self : goal.invariant_of-self
 invariant_of-self c =
     let room = c.in_ok-to.ensures.within in
-    subst AreKept (sym c.move_to.ensures) (AreKept-move c.self.inside.names c.in-Some.from c.in_ok-to.to
+    subst AreKept (sym c.move_to.ensures.value) (AreKept-move c.self.inside.names c.in-Some.from c.in_ok-to.to
     c.in-Some.ensures.within (rw length-map at
     (subst (λ (ts : Tags). c.in_ok-to.to < length ts.tags) (sym c.self.view_is) room)) c.self.invariant)
 
@@ -31,4 +31,7 @@ returns-clause-ok c =
     (sym c.in_ok-to.ensures.place)
     ∙ ap Ok (ap (λ (ts : Tags). move_index ts.tags c.in-Some.from c.in_ok-to.to) (sym c.self.view_is)
     ∙ sym (map-move_index tag c.self.inside.names.entries c.in-Some.from c.in_ok-to.to)
-    ∙ ap (λ (ns : Names). map tag ns.entries) (sym c.move_to.ensures))
+    ∙ ap (λ (ns : Names). map tag ns.entries) (sym c.move_to.ensures.value))
+
+pub returns-clause-sound : goal.returns-clause-sound
+returns-clause-sound c = AreTags-kept c.move_to.new.self c.move_to.ensures.sound (invariant_of-self c)

@@ -1,8 +1,0 @@
-use Rattle.command_effects.proofs.Common.{◌≡◌, ◌≤◌, length, take, names_of, texts_of, all_names, with_names}
-use Rattle.command_effects.proofs.excess.count_with.Given as goal
-
-abbrev pub invariant-loop-place : goal.invariant-loop-place
-invariant-loop-place l =
-    (l.count ≤ l.most)
-    × (l.count ≡ length (with_names (with_names (names_of l.tags.tags) (all_names l.before))
-    (texts_of (take l.place l.names))))
