@@ -38,4 +38,4 @@ pub use locate::Located;
 pub use starts::Placed;
 pub use tree::LineTree;
 pub use tree_lines::TreeLines;
-pub use tree_store::TreeStore;
+pub use tree_store::{LendsTree, TreeStore};

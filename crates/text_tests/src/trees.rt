@@ -5,7 +5,7 @@ ghost use Rattle.line_tree.specs.Trees.{total};
 
 use crate::edits::{PlainStep, edit_of, make, store_of};
 use crate::queries::NONE;
-use line_tree::{LineTree, TreeStore};
+use line_tree::{LendsTree, LineTree, TreeStore};
 use raw_nodes::Steps;
 use std::alloc::{AllocError, Global};
 use std::process::Abort;
