@@ -26,18 +26,9 @@ impl Handle {
             (record { chars = chars; tags = tags; marks = marks; widgets = widgets; reads = 0 })
             (state self.new) result }
     {
-        match Limits::new(chars, tags, marks, widgets, 0) {
-            Some(limits) => self.make_limited(alloc, limits),
-            None => MakeEnd::WrongLimits,
-        }
-    }
-
-    /// Makes a world of some limits in an empty handle.
-    fn make_limited(&mut self, alloc: Global, limits: Limits) -> MakeEnd
-        ensures { Makes (state self.old) limits (state self.new) result }
-    {
-        // Read first, so that every return knows that the numbers are in their bounds.
-        let _chars = limits.chars();
+        let Some(limits) = Limits::new(chars, tags, marks, widgets, 0) else {
+            return MakeEnd::WrongLimits;
+        };
         if self.full {
             return MakeEnd::WrongHandle;
         }
