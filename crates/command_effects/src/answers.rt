@@ -1,3 +1,5 @@
+//! What a command returns, and the faults with which it is refused.
+
 ghost use Rattle.std.specs.Prelude.{◌≡◌};
 ghost use Rattle.command_effects.specs.declared.answers.Fault.TheVariants.{Memory};
 ghost use Rattle.command_effects.specs.Faults.{edit_fault, index_fault, shape_fault};

@@ -1,3 +1,5 @@
+//! The arguments of a command by their number, at most three; a wrong number is a fault.
+
 ghost use Rattle.std.specs.Prelude.{◌≡◌, Some, None, Ok, Err, option_map, chars, length, ◌+◌, IfOk, IfErr};
 ghost use Rattle.tcl_words.specs.Unread.{texts_of};
 ghost use Rattle.command_effects.specs.Arguments.{first_of, first_two_of, none_or_one_of, one_of, one_or_two_of};

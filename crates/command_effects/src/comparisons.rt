@@ -1,3 +1,5 @@
+//! The operators of `compare`: how they are spelled, and whether they hold of two places.
+
 ghost use Rattle.std.specs.Prelude.{◌≡◌, chars};
 ghost use Rattle.command_effects.specs.Comparisons.{comparison_of, holds};
 

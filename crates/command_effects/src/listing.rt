@@ -1,3 +1,5 @@
+//! Appends ranges of tags, names of tags and marks, and texts to a list.
+
 ghost use Rattle.std.specs.Prelude.{ℕ, List, ◌+◌, ◌<◌, ◌≤◌, ◌∷◌, [], chars, filter, nat_lt, nat_le, string_bytes, OnOk};
 ghost use Rattle.std.specs.Prelude.{if◌then◌else◌};
 ghost use Rattle.std.specs.FinSet as set;

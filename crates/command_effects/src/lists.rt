@@ -1,3 +1,5 @@
+//! Reads the texts to be inserted, each with the names in its tag list.
+
 ghost use Rattle.std.specs.Prelude.{◌≡◌, ◌≢◌, ◌+◌, ◌≤◌, length, Ok, Err, chars, option_map, IfOk, IfErr};
 ghost use Rattle.tcl_words.specs.Unread.{texts_of};
 ghost use Rattle.command_effects.specs.declared.answers.Fault.TheVariants.{Memory};

@@ -1,3 +1,5 @@
+//! The words for a gravity, and changes of marks by name: set, moved, given a gravity or unset.
+
 ghost use Rattle.std.specs.Prelude.{◌≡◌, ◌≢◌, ◌≤◌, ◌<◌, None, Some, length, map, chars, IfOk, IfErr, OnOk, OnErr};
 ghost use Rattle.std.specs.FinMap as finite;
 ghost use Rattle.mark_table.specs.SharedMarks.{number_of, turned, AreMarks, IsFull};

@@ -1,3 +1,5 @@
+//! Converts pairs of places in a view to ranges of the document.
+
 ghost use Rattle.std.specs.Prelude.{◌≡◌, ◌+◌, ◌-◌, ◌≤◌, min, max, IfOk};
 ghost use Rattle.std.specs.List.{All};
 ghost use Rattle.command_effects.specs.Ranges.{span, spans_of};

@@ -1,3 +1,5 @@
+//! The options of a document and a widget: their defaults, how their values are read, and how they are shown.
+
 ghost use Rattle.std.specs.Prelude.{◌≡◌, ◌+◌, ◌≤◌, length, chars, ok_or, IfOk};
 ghost use Rattle.command_table.specs.Numbers.{boolean_of, integer_of};
 ghost use Rattle.tcl_words.specs.Unread.{texts_of};

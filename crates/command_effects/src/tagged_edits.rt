@@ -1,3 +1,5 @@
+//! Plans of insertions and replacements with tag lists, and tags added to ranges; new tags are created first.
+
 ghost use Rattle.std.specs.Prelude.{◌≡◌, ◌≢◌, ◌+◌, ◌<◌, ◌≤◌, ◌∷◌, [], true, false, nat_lt, min, length, chars, map};
 ghost use Rattle.std.specs.Prelude.{None, Some, option_map, IfOk, IfErr, OnOk, OnErr};
 ghost use Rattle.std.specs.Char.{IsScalar};

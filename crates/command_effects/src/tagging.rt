@@ -1,3 +1,5 @@
+//! The slots of tags by name, where `sel` is the widget's own; creates new tags and deletes old ones.
+
 ghost use Rattle.std.specs.Prelude.{◌≡◌, ◌≢◌, ◌+◌, ◌<◌, length, map, Some, Err, chars, option_map, IfOk, IfErr};
 ghost use Rattle.std.specs.Prelude.{OnOk, IfSome};
 ghost use Rattle.std.specs.FinSet as set;

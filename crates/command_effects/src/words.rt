@@ -1,3 +1,5 @@
+//! Whether a name is in a list of names.
+
 ghost use Rattle.std.specs.Prelude.{◌≡◌, chars};
 ghost use Rattle.tcl_words.specs.Unread.{texts_of};
 ghost use Rattle.command_effects.specs.Words.{is_among};

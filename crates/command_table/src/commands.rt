@@ -1,3 +1,5 @@
+//! The commands, each with its syntax.
+
 /// What a command is asked to do (text(n), "WIDGET COMMAND").
 #[derive(Clone, Copy, Debug, PartialEq, Eq)]
 pub enum Command {

@@ -1,3 +1,5 @@
+//! The table of commands: what may follow each subcommand, how an entry is found, and how it reads its words.
+
 ghost use Rattle.std.specs.Prelude.{◌≡◌, ◌≤◌, ◌+◌, List, ◌∷◌, chars, length, take, map, true, option_map, IfSome, IfOk};
 ghost use Rattle.command_table.specs.Words.{texts_of, literal, Word};
 ghost use Rattle.command_table.specs.Entries.{switch_words, bad_switch, bad_option, fits, before_options};

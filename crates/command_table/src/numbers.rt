@@ -1,3 +1,5 @@
+//! Reads words as booleans and integers.
+
 ghost use Rattle.std.specs.Prelude.{◌≡◌, chars, option_map, pos};
 ghost use Rattle.std.specs.Option.{ok_or};
 ghost use Rattle.command_table.specs.Numbers.{boolean_of, number_of, integer_of};

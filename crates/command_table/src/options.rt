@@ -1,3 +1,5 @@
+//! The options of a command: where they begin, whether they have values, and the first word that is no option.
+
 ghost use Rattle.std.specs.Prelude.{◌≡◌, ◌≤◌, ◌+◌, true, length, chars};
 ghost use Rattle.command_table.specs.Words.{texts_of, is_among};
 ghost use Rattle.command_table.specs.Entries.{is_option_place, bad_option, are_paired};

@@ -1,3 +1,5 @@
+//! Reads the words of a command as its shape, or reports why they are no command.
+
 ghost use Rattle.std.specs.Prelude.{◌≡◌, ◌<◌, ◌≤◌, ◌+◌, length, IfOk};
 ghost use Rattle.command_table.specs.Words.{texts_of};
 ghost use Rattle.command_table.specs.Reading.{behind, unknown, subcommand, reading};

@@ -1,3 +1,5 @@
+//! The positions of the parts of a command, and why words are no command.
+
 use crate::commands::Command;
 use thiserror::Error;
 

@@ -1,3 +1,5 @@
+//! The words that name a subcommand: none, one, or a family and its member.
+
 ghost use Rattle.std.specs.Prelude.{◌≡◌, ◌≤◌, length, IsTrue};
 ghost use Rattle.command_table.specs.Words.{texts_of};
 ghost use Rattle.command_table.specs.Entries.{begins};

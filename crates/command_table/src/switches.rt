@@ -1,3 +1,5 @@
+//! The switches before the arguments: their names, abbreviations and number, and the first unknown one.
+
 ghost use Rattle.std.specs.Prelude.{◌≡◌, ◌≤◌, ◌+◌, length, filter, take, chars};
 ghost use Rattle.std.specs.List.{starts_with};
 ghost use Rattle.command_table.specs.Words.{texts_of, lent, is_character};

@@ -1,3 +1,5 @@
+//! Comparisons of a word with known ones: equal to one, among several, or a prefix.
+
 ghost use Rattle.std.specs.Prelude.{◌≡◌, chars};
 ghost use Rattle.std.specs.List.{starts_with};
 ghost use Rattle.command_table.specs.Words.{is_same, is_among, is_character, is_dashed, lent};

@@ -1,3 +1,5 @@
+//! The bytes that passed through a device, as data for contracts alone.
+
 ghost use Rattle.std.specs.Prelude.{◌≡◌, [], ◌++◌, ℕ, List};
 
 use std::marker::Model;

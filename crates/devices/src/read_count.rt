@@ -1,3 +1,5 @@
+//! A count of reads, as data for contracts alone.
+
 ghost use Rattle.std.specs.Prelude.{◌≡◌, ◌+◌, ℕ};
 
 use std::marker::Model;

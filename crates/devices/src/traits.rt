@@ -1,3 +1,5 @@
+//! The traits of a device that a script is read from, and of one that output is written to.
+
 ghost use Rattle.std.specs.Prelude.{◌≡◌, ◌+◌, ◌<◌, ◌≤◌, Bool, true, false, length, take};
 ghost use Rattle.devices.specs.Devices.{ReadLog, WriteLog, Reads, Takes};
 

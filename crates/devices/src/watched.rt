@@ -1,3 +1,5 @@
+//! A reader or writer that isn't called again after its first failure.
+
 mod sink;
 mod source;
 

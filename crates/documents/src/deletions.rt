@@ -1,3 +1,5 @@
+//! Deletes ranges of a document, and replaces a range by texts with tag lists.
+
 ghost use Rattle.std.specs.Prelude.{◌≡◌, ◌<◌, ◌≤◌, false, length};
 ghost use Rattle.std.specs.List.{All};
 ghost use Rattle.text_model.specs.LimitTable.{LimitTable};

@@ -1,3 +1,5 @@
+//! The fields of a document, how it is created, and its widgets by name and seat.
+
 ghost use Rattle.std.specs.Prelude.{◌≡◌, true, None, Some, is_some, ◌-◌, ◌<◌, length, chars, Ok, IfOk, IfSome};
 ghost use Rattle.text_model.specs.LimitTable.{LimitTable, AreLimits};
 ghost use Rattle.documents.specs.Documents.{widget_at};

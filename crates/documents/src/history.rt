@@ -1,3 +1,5 @@
+//! The modified flag of a document, and its undo, redo, separators and reset.
+
 ghost use Rattle.std.specs.Prelude.{◌≡◌, ◌<◌, length, Ok};
 ghost use Rattle.text_model.specs.LimitTable.{LimitTable};
 ghost use Rattle.documents.specs.Documents.{widget_at};

@@ -1,3 +1,5 @@
+//! Converts between indices and places in a widget's view.
+
 ghost use Rattle.std.specs.Prelude.{◌≡◌, ℕ, ◌<◌, ◌≤◌, length, chars, Ok, Err};
 ghost use Rattle.std.specs.Prelude.{IfOk};
 ghost use Rattle.text_index.specs.Positions.{position_text};

@@ -1,3 +1,5 @@
+//! The marks of a document: found, listed, set, moved, given a gravity and unset.
+
 ghost use Rattle.std.specs.Prelude.{◌≡◌, true, None, Some, is_some, ◌+◌, ◌-◌, ◌<◌, ◌≤◌, min, length, chars, option_map};
 ghost use Rattle.std.specs.Prelude.{Ok, Err, IfOk, [], IfSome, slice_index_or};
 ghost use Rattle.text_model.specs.LimitTable.{LimitTable};

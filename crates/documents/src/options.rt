@@ -1,3 +1,5 @@
+//! Reads and sets the options of a document and a widget; the view's bounds are given as lines.
+
 ghost use Rattle.std.specs.Prelude.{◌≡◌, ◌+◌, ◌-◌, ◌<◌, ◌≤◌, false, length, option_map, Ok, IfSome};
 ghost use Rattle.command_effects.specs.declared.answers.Answer.TheVariants.{Empty};
 ghost use Rattle.command_effects.specs.Settings.{is_behind};

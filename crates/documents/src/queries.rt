@@ -1,3 +1,5 @@
+//! Searches, counts and dumps of a widget's view, as lists.
+
 ghost use Rattle.std.specs.Prelude.{◌≡◌, ◌-◌, ◌<◌, ◌≤◌, length, chars, Ok, IfOk, IfSome};
 ghost use Rattle.documents.specs.Documents.{widget_at};
 ghost use Rattle.documents.specs.Views.{shown};

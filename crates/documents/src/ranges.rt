@@ -1,3 +1,5 @@
+//! Converts pairs of places in a widget's view to ranges of the document.
+
 ghost use Rattle.std.specs.Prelude.{◌≡◌, ◌-◌, ◌<◌, ◌≤◌, length, IfOk};
 ghost use Rattle.std.specs.List.{All};
 ghost use Rattle.documents.specs.Documents.{widget_at};

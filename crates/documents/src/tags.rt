@@ -1,3 +1,5 @@
+//! The tags of a document: listed, added to ranges, removed from them, deleted, raised and lowered.
+
 ghost use Rattle.std.specs.Prelude.{◌≡◌, Some, ◌+◌, ◌-◌, ◌<◌, ◌≤◌, length, chars, option_map, nat_lt, nat_le, Ok, Err};
 ghost use Rattle.std.specs.Prelude.{IfOk};
 ghost use Rattle.std.specs.List.{All};

@@ -1,3 +1,5 @@
+//! Reads the text of a widget's view, and inserts texts with tag lists.
+
 ghost use Rattle.std.specs.Prelude.{◌≡◌, ◌<◌, ◌≤◌, ◌-◌, false, suc, min, length, slice_range, IfOk};
 ghost use Rattle.documents.specs.Documents.{widget_at};
 ghost use Rattle.documents.specs.Promise.{Does};

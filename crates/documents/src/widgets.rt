@@ -1,3 +1,5 @@
+//! Adds widgets to a document, lists them, and removes them with their marks and selections.
+
 ghost use Rattle.std.specs.Prelude.{◌≡◌, true, Some, ◌-◌, ◌<◌, length, chars, map, Ok, Err, IfOk};
 ghost use Rattle.std.specs.Prelude.{OnOk, OnErr};
 ghost use Rattle.std.specs.List.{AllByRecursion};

@@ -1,3 +1,5 @@
+//! The anchors of a widget, the start and the end of the part of a text that it shows, and how edits move them.
+
 ghost use Rattle.std.specs.Prelude.{◌≡◌, ◌+◌, ◌<◌, ◌≤◌, ◌^◌, IfSome, true, map, option_map};
 ghost use Rattle.std.specs.List.{All};
 ghost use Rattle.edit_ops.specs.Anchors.{AnchorsStand, anchor_moved, anchors_moved, start_drawn, end_drawn};

@@ -1,3 +1,5 @@
+//! The changes of a text that the hunks of an edit make, with offsets and spots, the last change first.
+
 ghost use Rattle.std.specs.Prelude.{◌≡◌, ◌+◌, ◌-◌, ◌≤◌, ◌^◌, ◌++◌, ℕ, List, [], length, IfOk};
 ghost use Rattle.edit_ops.specs.Told.{end_of, hunk_changes, patched, AreHunks, HasRoom, Tells};
 ghost use Rattle.text_model.specs.Content.{characters};

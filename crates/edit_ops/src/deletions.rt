@@ -1,3 +1,5 @@
+//! Plans of deletions: spans are deleted, but the last character that the widget shows is kept.
+
 ghost use Rattle.std.specs.Prelude.{◌≡◌, true, ℕ, ◌+◌, ◌-◌, ◌<◌, ◌≤◌, ◌^◌, ◌&&◌, ◌∷◌, [], nat_le, nat_lt};
 ghost use Rattle.std.specs.Prelude.{get_or, length, map, slice_get, sum_by, OnOk, IfOk, IfErr, Some, if◌then◌else◌};
 ghost use Rattle.std.specs.List.{All};

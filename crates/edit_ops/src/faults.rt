@@ -1,3 +1,5 @@
+//! The reasons for which an edit is refused.
+
 ghost use Rattle.std.specs.Prelude.{◌≡◌};
 ghost use Rattle.edit_ops.specs.declared.faults.EditFault.TheVariants.{Memory};
 

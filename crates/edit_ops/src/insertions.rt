@@ -1,3 +1,5 @@
+//! Plans of insertions: one text, or pieces in which each character has tags of its own.
+
 ghost use Rattle.std.specs.Prelude.{◌≡◌, ◌≢◌, ◌+◌, ◌<◌, ◌≤◌, ◌^◌, ◌↔◌, ◌-◌, nat_lt, min, length, OnOk, IfOk, Err};
 ghost use Rattle.std.specs.Prelude.{true, false, Some, slice_get, ◌∷◌, []};
 ghost use Rattle.std.specs.Char.{IsScalar};

@@ -1,3 +1,5 @@
+//! Reorders the steps of an edit without changing their effect, so that a store passes through the text few times.
+
 ghost use Rattle.std.specs.Prelude.{◌≡◌, ◌+◌, ◌<◌, ◌∷◌, [], ◌++◌, List, IfOk, IfSome, Some, None, length};
 ghost use Rattle.text_model.specs.declared.edits.Step.{Step};
 ghost use Rattle.edit_ops.specs.Orders.{AreAlike, AreWatched, IsBefore, IsLowered, LetsPass, Passes, at_span};

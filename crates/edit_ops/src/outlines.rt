@@ -1,3 +1,5 @@
+//! Builds up an edit: its steps, the anchors of each widget after them, and the actions to be noted for undo.
+
 ghost use Rattle.std.specs.Prelude.{◌≡◌, ◌+◌, ◌<◌, ◌≤◌, ◌^◌, ◌++◌, ◌∷◌, [], true, false, length, map, OnOk, IfOk};
 ghost use Rattle.std.specs.Prelude.{slice_range};
 ghost use Rattle.std.specs.List.{All};

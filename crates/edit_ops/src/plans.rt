@@ -1,3 +1,5 @@
+//! Plans of commands: prepares an edit with all its memory, and commits it to a text and its history without failure.
+
 ghost use Rattle.std.specs.Prelude.{◌≡◌, ◌≤◌, true, length, IfOk};
 ghost use Rattle.text_model.specs.Steps.{Fits, after};
 ghost use Rattle.edit_ops.specs.Plans.{anchors_left, log_after, planned, HasRoom, HasRoomFor};

@@ -1,3 +1,5 @@
+//! Plans of replacements: a span is deleted and pieces of text are inserted in its place.
+
 ghost use Rattle.std.specs.Prelude.{◌≡◌, ◌+◌, ◌-◌, ◌<◌, ◌≤◌, ◌^◌, ◌↔◌, true, min, length, option_and_then, IfOk};
 ghost use Rattle.std.specs.Prelude.{OnOk, Err};
 ghost use Rattle.std.specs.Char.{IsScalar};

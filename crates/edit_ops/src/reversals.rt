@@ -1,3 +1,5 @@
+//! Plans of undo and redo: the last group of actions is reverted, or made once more.
+
 ghost use Rattle.std.specs.Prelude.{◌≡◌, ◌+◌, ◌-◌, ◌<◌, ◌≤◌, ◌^◌, ◌∷◌, [], not, length, option_map, OnOk, IfOk, Some};
 ghost use Rattle.std.specs.Prelude.{IsSome, IfSome, true, false, if◌then◌else◌, List, ℕ};
 ghost use Rattle.std.specs.Prelude.{option_and_then};

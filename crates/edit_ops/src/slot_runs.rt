@@ -1,3 +1,5 @@
+//! A run of characters of a text with the tag slots that they get.
+
 use text_model::TagSet;
 
 /// The characters of a text from one offset to another, and the slots that they get.

@@ -1,3 +1,5 @@
+//! A text to be inserted, with the tag slots of its characters or without.
+
 ghost use Rattle.std.specs.Prelude.{◌<◌};
 
 use text_model::{TagSet, Text};

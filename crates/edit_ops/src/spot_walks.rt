@@ -8,7 +8,7 @@ use crate::spots::Spot;
 use std::alloc::AllocError;
 use text_model::TextStore;
 
-/// So many characters are copied at a time to be looked at, at most.
+/// Each copy has a maximum of 4,096 characters.
 const BLOCK: usize = 4096;
 
 /// A place of a text, as an offset and as its spot, from which the places behind it are found: in one line each

@@ -1,3 +1,5 @@
+//! The line and column of an offset, the column in characters, in bytes of UTF-8 and in units of UTF-16.
+
 ghost use Rattle.std.specs.Prelude.{◌≡◌, ◌+◌, ◌++◌, ◌∷◌, [], ℕ, List, chars, length};
 ghost use Rattle.std.specs.Char.{len_utf8};
 ghost use Rattle.edit_ops.specs.Told.{end_of, HasRoom};

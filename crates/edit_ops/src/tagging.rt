@@ -1,3 +1,5 @@
+//! Plans of tag changes: a slot is set on spans or removed from them, or slots are removed from all characters.
+
 ghost use Rattle.std.specs.Prelude.{◌≡◌, ◌<◌, length, map, IfOk, IfErr};
 ghost use Rattle.std.specs.List.{All};
 ghost use Rattle.edit_ops.specs.Tagging.{SpanFits, tagged, cleared};

@@ -1,3 +1,5 @@
+//! A text with its store, history and anchors, the rules by which it is edited, and the target of a replacement.
+
 use crate::anchors::Anchors;
 use crate::plans::Recording;
 use std::alloc::Global;

@@ -1,3 +1,5 @@
+//! The reasons for which a word has no place in a text.
+
 ghost use Rattle.std.specs.Prelude.{◌≡◌};
 ghost use Rattle.index_grammar.specs.declared.faults.IndexFault.TheVariants.{Memory};
 

@@ -1,3 +1,5 @@
+//! Finds the longest prefix of a word that names a mark, or the first or last character of a tag.
+
 ghost use Rattle.std.specs.Prelude.{ℕ, ◌≡◌, ◌≢◌, ◌<◌, ◌≤◌, ◌+◌, ◌-◌, ◌++◌, None, Some, true, not, drop, length, chars};
 ghost use Rattle.std.specs.Prelude.{List, slice_index, slice_get, option_map, encode_utf8_all};
 ghost use Rattle.std.specs.Prelude.{MatchOption, IfSome};

@@ -1,3 +1,5 @@
+//! Indices as data: a base, and the modifiers that lead from there to another place.
+
 ghost use Rattle.std.specs.Prelude.{◌≡◌};
 
 use std::marker::Model;

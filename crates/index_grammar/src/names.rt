@@ -1,3 +1,5 @@
+//! Looks up the marks and tags that an index can name, with the widget's own `insert`, `current` and `sel`.
+
 ghost use Rattle.std.specs.Prelude.{◌≡◌, ◌<◌, option_map, chars, IfSome};
 ghost use Rattle.text_model.specs.declared.limits.TheConstants.Limits.{MOST_WIDGETS};
 ghost use Rattle.text_model.specs.TagBits.{slot_count};

@@ -1,3 +1,5 @@
+//! Reads digits as a number, which is the maximum if they spell a greater one.
+
 ghost use Rattle.std.specs.Prelude.{◌≡◌, ◌-◌, min, option_map};
 ghost use Rattle.index_grammar.specs.Grammar.{number_of};
 

@@ -1,3 +1,5 @@
+//! Reads a word as an index: its base, then its modifiers, as text(n) has them.
+
 ghost use Rattle.std.specs.Prelude.{◌≡◌, ◌≢◌, ◌<◌, None, Some, chars, IfOk, IfErr, IfSome};
 ghost use Rattle.text_model.specs.declared.limits.TheConstants.Limits.{MOST_WIDGETS};
 ghost use Rattle.index_grammar.specs.Grammar.{base_of, index_of};

@@ -1,3 +1,5 @@
+//! Reads the place that a word begins with: a line, a dot, and a character of the line or `end`.
+
 ghost use Rattle.std.specs.Prelude.{◌≡◌, ◌<◌, length, chars, position, option_map, IfSome};
 ghost use Rattle.index_grammar.specs.Grammar.{in_line, around_dot, place_of, place_base, saturated_base};
 ghost use Rattle.index_grammar.specs.Reading.{is_dot, read_of, found_of};

@@ -1,3 +1,5 @@
+//! Reads the modifiers of an index: counts of characters, indices or lines, and abbreviated keywords.
+
 ghost use Rattle.std.specs.Prelude.{◌≡◌, ◌≢◌, ◌≤◌, ◌+◌, ◌∷◌, length, None, Some, IfOk, IfErr, IfSome, IsTrue};
 ghost use Rattle.std.specs.Prelude.{option_map};
 ghost use Rattle.index_grammar.specs.Grammar.{abbreviates, unit_of, keyword_of, tokens_of, modifiers_of};

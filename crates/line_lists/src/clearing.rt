@@ -1,3 +1,5 @@
+//! Clears a slot's toggles in a draft, and finds the slots that are on before an offset.
+
 ghost use Rattle.std.specs.Prelude.{◌≡◌, ◌+◌, ◌-◌, ◌<◌, ◌≤◌, ◌^◌, List, [], ◌∷◌, ◌++◌, None, IfOk, IfSome, OnOk, drop};
 ghost use Rattle.std.specs.Prelude.{length, min, slice_get, take, true, vec_len};
 ghost use Rattle.segments.specs.Columns.{LineContent};

@@ -1,3 +1,5 @@
+//! Drafts of a list of lines: the copies of the lines that an edit changes, with the current place among them.
+
 ghost use Rattle.std.specs.Prelude.{◌≡◌, ◌+◌, ◌-◌, ◌<◌, ◌≤◌, ◌^◌, List, ◌∷◌, [], ◌++◌, IfOk, IfSome, OnOk, drop};
 ghost use Rattle.std.specs.Prelude.{length, take, slice_get, vec_len, vec_capacity, true, false, chars, None, Some};
 ghost use Rattle.std.specs.FinMap as finite;

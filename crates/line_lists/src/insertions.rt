@@ -1,3 +1,5 @@
+//! Inserts text into a draft, and splits it into lines at its newlines.
+
 ghost use Rattle.std.specs.Prelude.{◌≡◌, ◌+◌, ◌<◌, ◌≤◌, ◌^◌, ◌++◌, IfNone, IfSome, IfOk, OnOk, chars, length};
 ghost use Rattle.text_model.specs.Lines.{lines};
 ghost use Rattle.segments.specs.Columns.{after_text, line_before, line_behind, plain_line};

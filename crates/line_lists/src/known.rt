@@ -1,3 +1,5 @@
+//! A cache of the slots that are on after some copies of a draft, updated copy by copy in both directions.
+
 ghost use Rattle.std.specs.Prelude.{◌≡◌, ◌+◌, ◌-◌, ◌≤◌, List, [], drop, length, max, min, take};
 ghost use Rattle.text_model.specs.SlotSets.{differing};
 ghost use Rattle.segments.specs.Columns.{LineContent};

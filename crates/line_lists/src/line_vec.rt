@@ -1,3 +1,5 @@
+//! A list of lines in a plain `Vec`, which computes its sums at each query: the reference for other lists.
+
 ghost use Rattle.std.specs.Prelude.{◌≡◌, ◌+◌, ◌-◌, ◌<◌, ◌≤◌, ◌^◌, length, map, not, vec_len, vec_capacity};
 ghost use Rattle.std.specs.List.{position, suffix_len};
 ghost use Rattle.text_model.specs.Splices.{inserted, removed};

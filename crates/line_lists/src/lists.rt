@@ -1,3 +1,5 @@
+//! The trait of a list of lines: queries by line and offset, reservation of capacity, and splicing of lines.
+
 ghost use Rattle.std.specs.Prelude.{◌≡◌, ℕ, ◌+◌, ◌<◌, ◌≤◌, List, [], ◌∷◌, length, map, take, slice_get, Some, IfOk};
 ghost use Rattle.std.specs.Prelude.{◌++◌, IfSome, None, OnOk, chars, slice_range, string_bytes, true};
 ghost use Rattle.std.specs.List.{All};

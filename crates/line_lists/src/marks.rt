@@ -1,3 +1,5 @@
+//! Finds, removes and adds the marks of a draft by their numbers.
+
 ghost use Rattle.std.specs.Prelude.{◌≡◌, ◌-◌, ◌<◌, ◌≤◌, [], ◌∷◌, IfSome, OnOk, None, length, take, drop};
 ghost use Rattle.std.specs.FinMap as finite;
 ghost use Rattle.line_lists.specs.DraftTexts.{IsTextIn, lines_in, text_in};

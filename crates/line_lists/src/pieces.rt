@@ -1,3 +1,5 @@
+//! Turns the copies of a draft into pieces to splice into a list, and counts the lines and marks they add.
+
 ghost use Rattle.std.specs.Prelude.{◌≡◌, ℕ, ◌+◌, ◌<◌, ◌≤◌, ◌^◌, ◌++◌, ◌∷◌, [], IfOk, OnOk, length};
 ghost use Rattle.std.specs.List.{All};
 ghost use Rattle.toggle_sums.specs.Counts.{counting, plus};

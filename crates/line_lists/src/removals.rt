@@ -1,3 +1,5 @@
+//! Removes characters from a draft, and joins the lines whose newlines are removed.
+
 ghost use Rattle.std.specs.Prelude.{◌≡◌, ◌+◌, ◌<◌, ◌≤◌, ◌^◌, ◌∷◌, [], ◌++◌, IfOk, OnOk, length, take, drop, vec_len};
 ghost use Rattle.std.specs.Prelude.{vec_capacity};
 ghost use Rattle.segments.specs.Columns.{after_removal, joined};

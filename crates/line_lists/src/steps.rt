@@ -1,3 +1,5 @@
+//! Applies the steps of an edit to a draft: text, slots and marks, by offsets in characters.
+
 ghost use Rattle.std.specs.Prelude.{◌≡◌, ◌+◌, ◌<◌, ◌≤◌, IfOk, OnOk, chars, length, take};
 ghost use Rattle.text_model.specs.SlotSets.{differing};
 ghost use Rattle.text_model.specs.Steps.{Fits, StepFitsIn, after, set_slot};

@@ -1,3 +1,5 @@
+//! A text store over any list of lines: prepares an edit as a change of the list, then commits it.
+
 ghost use Rattle.std.specs.Prelude.{◌≡◌, ◌≢◌, ◌≤◌, List, [], ◌∷◌, IfOk, OnOk, length, map};
 ghost use Rattle.text_model.specs.Steps.{Fits, after};
 ghost use Rattle.text_model.specs.declared.edits.Step.TheVariants.{PutMark, TakeMark};

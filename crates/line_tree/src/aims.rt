@@ -1,3 +1,5 @@
+//! What a search in the tree looks for, a line or a character, and what it adds up on the way.
+
 ghost use Rattle.std.specs.Prelude.{◌≡◌, ℕ, ◌+◌, ◌≤◌, IfSome};
 ghost use Rattle.toggle_sums.specs.Counts.{Count};
 ghost use Rattle.raw_nodes.specs.Names.{IsName, entry};

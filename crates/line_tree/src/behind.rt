@@ -1,3 +1,5 @@
+//! Inserts a line after one whose name is known, from that line up, if the node above has space.
+
 ghost use Rattle.std.specs.Prelude.{◌≡◌, ◌-◌, ◌<◌, true, false};
 ghost use Rattle.std.specs.FinMap as finite;
 ghost use Rattle.raw_nodes.specs.Names.{records, rooms, spares};

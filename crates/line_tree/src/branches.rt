@@ -1,3 +1,5 @@
+//! Releases a lowest node with its lines, and counts the lines from a given line to the end of its node.
+
 ghost use Rattle.std.specs.Prelude.{◌≡◌, ◌+◌, IfSome, length};
 ghost use Rattle.std.specs.FinMap as finite;
 ghost use Rattle.raw_nodes.specs.Chain.{rooms_for};

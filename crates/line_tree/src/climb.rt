@@ -1,3 +1,5 @@
+//! Computes a line's number and the characters before it from its name, from the line up to the root.
+
 ghost use Rattle.std.specs.Prelude.{◌≡◌, ℕ, suc, ◌+◌, ◌*◌, ◌^◌, ◌≤◌, ◌<◌, length, take};
 ghost use Rattle.raw_nodes.specs.Names.{records};
 ghost use Rattle.line_tree.specs.Shape.{IsTree, lines_in};

@@ -1,3 +1,5 @@
+//! Links children to a node, updates its sum, and adds a child, with a split if the node is full.
+
 ghost use Rattle.std.specs.Prelude.{◌≡◌, ℕ, ◌+◌, ◌*◌, ◌≤◌, ◌<◌, length, slice_get, take, drop, option_to_list, []};
 ghost use Rattle.std.specs.Prelude.{◌∷◌};
 ghost use Rattle.std.specs.List.{insert};

@@ -1,3 +1,5 @@
+//! Inserts a single line by its number, from the root down, and splits full nodes.
+
 ghost use Rattle.std.specs.Prelude.{◌≡◌, ◌+◌, ◌-◌, ◌≤◌, ◌<◌, length, Some};
 ghost use Rattle.std.specs.FinMap as finite;
 ghost use Rattle.raw_nodes.specs.Names.{records, rooms, spares};

@@ -1,3 +1,5 @@
+//! The maximum number of levels of a tree with a given number of lines.
+
 ghost use Rattle.std.specs.Prelude.{◌≡◌, ◌≤◌};
 ghost use Rattle.line_tree.specs.Room.{levels_at_most};
 

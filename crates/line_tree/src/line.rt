@@ -1,3 +1,5 @@
+//! Returns a line of the tree by its name.
+
 use crate::tree::LineTree;
 use raw_nodes::{NodePtr, Ticks};
 use segments::Line;

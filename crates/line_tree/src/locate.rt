@@ -1,3 +1,5 @@
+//! Finds the line of a character by its offset: the line's name, its number and the column.
+
 ghost use Rattle.std.specs.Prelude.{◌+◌, ◌*◌, ◌^◌, ◌≤◌, ◌<◌, length};
 ghost use Rattle.raw_nodes.specs.Names.{records};
 ghost use Rattle.line_tree.specs.Trees.{total};

@@ -1,3 +1,5 @@
+//! A table from mark numbers to the names of their lines, and its updates when lines come and go.
+
 ghost use Rattle.std.specs.Prelude.{◌≡◌, ℕ, ◌<◌, ◌≤◌, MatchOption, OnOk, if◌then◌else◌, length, slice_range};
 ghost use Rattle.std.specs.Prelude.{vec_len};
 ghost use Rattle.std.specs.List.{All};

@@ -1,3 +1,5 @@
+//! Finds the next or previous line that has a toggle of a slot or a mark, by the sums of the nodes.
+
 ghost use Rattle.std.specs.Prelude.{◌≡◌, ◌^◌, ◌<◌, ◌≤◌, IfSome, length};
 ghost use Rattle.raw_nodes.specs.Names.{IsName, entry, records};
 ghost use Rattle.line_lists.specs.Lists.{next_line, previous_line};

@@ -1,3 +1,5 @@
+//! The sum of a prefix of the lines.
+
 ghost use Rattle.std.specs.Prelude.{◌≡◌, ◌≤◌, length, take};
 ghost use Rattle.raw_nodes.specs.Names.{records};
 ghost use Rattle.line_tree.specs.Changes.{FitsSum};

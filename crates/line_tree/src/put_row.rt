@@ -1,3 +1,5 @@
+//! Inserts a row of lines at once below a node, and adds levels until the row has one root.
+
 ghost use Rattle.std.specs.Prelude.{◌≡◌, ◌+◌, ◌-◌, ◌*◌, ◌≤◌, ◌<◌, [], length, max, drop, take, vec_capacity};
 ghost use Rattle.raw_nodes.specs.Names.{nodes, records, rooms, spares};
 ghost use Rattle.line_tree.specs.Growth.{lines_of};

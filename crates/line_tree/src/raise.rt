@@ -1,3 +1,5 @@
+//! Builds parent nodes, up to 12 children each, for a row of nodes or for a node's children and a row.
+
 ghost use Rattle.std.specs.Prelude.{◌≡◌, ℕ, ◌+◌, ◌-◌, ◌*◌, ◌≤◌, ◌<◌, ◌++◌, length, slice_get, take, drop, vec_capacity};
 ghost use Rattle.std.specs.FinMap as finite;
 ghost use Rattle.raw_nodes.specs.Names.{IsName, nodes, records, rooms, spares};

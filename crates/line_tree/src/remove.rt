@@ -1,3 +1,5 @@
+//! Removes a line or a whole node of lines, rebalances on the way up, and lowers a root with one child.
+
 ghost use Rattle.std.specs.Prelude.{◌≡◌, ◌+◌, ◌≤◌, ◌<◌, IfSome, None, length, slice_get, Some};
 ghost use Rattle.std.specs.FinMap as finite;
 ghost use Rattle.raw_nodes.specs.Names.{records, rooms, spares};

@@ -1,3 +1,5 @@
+//! Replaces a line under its name, and updates the sums from that line up to the root.
+
 ghost use Rattle.std.specs.Prelude.{◌≡◌, ℕ};
 ghost use Rattle.raw_nodes.specs.Names.{records, rooms, spares};
 ghost use Rattle.raw_nodes.specs.Rows.{kids, row};

@@ -1,3 +1,5 @@
+//! Limits of a row of lines that is inserted at once, and the number of nodes it needs.
+
 ghost use Rattle.std.specs.Prelude.{◌≡◌, ◌+◌, ◌*◌, ◌/◌, ◌≤◌};
 ghost use Rattle.line_tree.specs.Room.{most_in_row};
 

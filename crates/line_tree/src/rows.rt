@@ -1,3 +1,5 @@
+//! Inserts many lines at once as rows of at most 32,768 lines, and reserves space for their names.
+
 use crate::put_row::{lift, make_row, put_row};
 use crate::room::MOST_IN_ROW;
 use crate::tree::LineTree;

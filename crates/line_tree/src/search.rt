@@ -1,3 +1,5 @@
+//! Searches for a place among a node's children from either end, and descends from a root to a line.
+
 ghost use Rattle.std.specs.Prelude.{◌≡◌, ◌+◌, ◌-◌, ◌*◌, ◌<◌, ◌≤◌, IfSome};
 ghost use Rattle.raw_nodes.specs.Names.{records};
 ghost use Rattle.line_tree.specs.Finds.{HasRow};

@@ -1,3 +1,5 @@
+//! Finds the name of a line by its number.
+
 ghost use Rattle.std.specs.Prelude.{◌≡◌, suc, ◌+◌, ◌*◌, ◌≤◌, ◌<◌, length, slice_get, option_map};
 ghost use Rattle.raw_nodes.specs.Names.{records};
 ghost use Rattle.line_tree.specs.Shape.{IsTree, lines_in};

@@ -1,3 +1,5 @@
+//! Removes a child of a node, and merges or evens out neighbours with too few children.
+
 ghost use Rattle.std.specs.Prelude.{◌≡◌, ◌+◌, ◌≤◌, ◌<◌, ◌++◌, length, slice_get, slice_index_or, take, drop};
 ghost use Rattle.std.specs.Prelude.{IfSome, None, Some};
 ghost use Rattle.std.specs.List.{remove};

@@ -1,3 +1,5 @@
+//! Replaces some lines by others: reuses their names first, then inserts or removes the rest.
+
 use crate::room::ROW;
 use crate::tree::LineTree;
 use raw_nodes::{NodePtr, Ticks};

@@ -1,3 +1,5 @@
+//! Moves children of a full node to a neighbour that has space, so that no split is needed.
+
 ghost use Rattle.std.specs.Prelude.{◌≡◌, ◌+◌, ◌<◌, ◌≤◌, IfSome, length, slice_get, true, false, Some, None};
 ghost use Rattle.raw_nodes.specs.Names.{records, rooms, spares};
 ghost use Rattle.raw_nodes.specs.Rows.{kids};

@@ -1,3 +1,5 @@
+//! Finds a line by its number, the characters before it, and the slots toggled an odd number of times there.
+
 ghost use Rattle.std.specs.Prelude.{◌≡◌, ◌<◌, ◌≤◌, length, take};
 ghost use Rattle.raw_nodes.specs.Names.{records};
 ghost use Rattle.line_tree.specs.Changes.{FitsSum};

@@ -1,3 +1,5 @@
+//! Removes a mark from a line by its name, and updates the mark counts from that line up to the root.
+
 ghost use Rattle.std.specs.Prelude.{◌≡◌, ℕ};
 ghost use Rattle.toggle_sums.specs.Counts.{counting, no_text};
 ghost use Rattle.line_lists.specs.Edits.{without_mark};

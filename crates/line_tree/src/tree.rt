@@ -1,3 +1,5 @@
+//! The balanced tree of named lines: its queries, insertion and removal of lines, and reserved nodes.
+
 use crate::behind::Added;
 use crate::branches::{give_back_all, lines_from};
 use crate::climb::{rank, start_of};

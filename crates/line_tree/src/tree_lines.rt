@@ -1,3 +1,5 @@
+//! The list of lines over the balanced tree, with the name of each mark's line.
+
 ghost use Rattle.std.specs.Prelude.{◌≡◌, ◌+◌, ◌<◌, ◌≤◌, [], ◌∷◌, IfSome, length};
 ghost use Rattle.toggle_sums.specs.Counts.{plus};
 ghost use Rattle.line_lists.specs.Lists.{AreLines, IsCounted, NumbersBelow, count_of, spliced};

@@ -1,3 +1,5 @@
+//! Finds the line after a given one: up to their common node, then down to the first line.
+
 ghost use Rattle.std.specs.Prelude.{◌≡◌, ℕ, ◌+◌, ◌*◌, ◌≤◌, slice_get, option_map};
 ghost use Rattle.raw_nodes.specs.Names.{records};
 ghost use Rattle.line_tree.specs.Shape.{IsTree, lines_in, tree_at};

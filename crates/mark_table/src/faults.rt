@@ -1,3 +1,5 @@
+//! The fault of a call that names an undefined mark.
+
 use thiserror::Error;
 
 /// The mark that a call names isn't defined.

@@ -1,3 +1,5 @@
+//! The marks of a text by their names: the number of each in the text, and its gravity.
+
 ghost use Rattle.std.specs.Prelude.{◌≡◌, ◌<◌, ◌≤◌, ◌+◌, ◌↔◌, ◌∷◌, [], ◌++◌, length, slice_get, chars, string_bytes};
 ghost use Rattle.std.specs.Prelude.{None, Some, Contains, IsNone, IsSome, IfOk, IfSome, OnOk, OnErr, MatchOption};
 ghost use Rattle.std.specs.Prelude.{MatchResult, slice_set, vec_len, vec_capacity};

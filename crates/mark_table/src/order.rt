@@ -1,3 +1,5 @@
+//! The order of the marks that a widget can use: by place, then `insert`, `current` and the shared ones by creation.
+
 ghost use Rattle.std.specs.Prelude.{◌≡◌, ◌+◌, ◌*◌, ◌<◌, ◌≤◌, Some};
 ghost use Rattle.std.specs.FinMap as finite;
 ghost use Rattle.std.specs.Option.{option_to_list};

@@ -1,3 +1,5 @@
+//! Finds the next or the previous mark that a widget can use, from a mark or from an offset.
+
 ghost use Rattle.std.specs.Prelude.{◌≡◌, ℕ, ◌+◌, ◌-◌, ◌^◌, ◌<◌, ◌≤◌, ◌⊎◌, max, None, Some, IfSome, length, slice_get};
 ghost use Rattle.std.specs.Prelude.{true, false};
 ghost use Rattle.std.specs.Option.{option_to_list};

@@ -1,3 +1,5 @@
+//! Names in an order, each with a number that it keeps as long as it is in the list.
+
 ghost use Rattle.std.specs.Prelude.{◌≡◌, ℕ, ◌<◌, ◌↔◌, ◌∷◌, [], ◌++◌, length, remove, take, slice_get, chars};
 ghost use Rattle.std.specs.Prelude.{string_bytes, None, Some, Contains, IsNone, IfOk, IfSome, OnOk, OnErr, MatchOption};
 ghost use Rattle.name_list.specs.Moves.{move_index};

@@ -1,3 +1,5 @@
+//! Dispatches a command of a widget, except `peer create`, to the function that carries it out.
+
 ghost use Rattle.std.specs.Prelude.{◌≡◌, ◌≢◌, ◌+◌, ◌<◌, ◌≤◌, ℕ, true, false, [], List, length, Ok, Err, IfOk};
 ghost use Rattle.tcl_words.specs.Unread.{texts_of};
 ghost use Rattle.documents.specs.Documents.{widget_at};

@@ -1,3 +1,5 @@
+//! The commands `delete` and `replace`.
+
 ghost use Rattle.std.specs.Prelude.{◌+◌, ◌≤◌, length, ◌<◌};
 ghost use Rattle.std.specs.List.{All};
 ghost use Rattle.text_model.specs.LimitTable.{LimitTable};

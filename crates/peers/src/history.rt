@@ -1,3 +1,5 @@
+//! The command `edit modified`.
+
 ghost use Rattle.std.specs.Prelude.{◌≢◌, chars, option_map, Err, ok_or, ◌<◌};
 ghost use Rattle.text_model.specs.LimitTable.{LimitTable};
 ghost use Rattle.tcl_words.specs.Unread.{texts_of};

@@ -1,3 +1,5 @@
+//! The subcommands of `mark`, except `mark unset`, and the marks that a command may displace.
+
 ghost use Rattle.std.specs.Prelude.{◌≡◌, ◌+◌, ◌≤◌, length, chars, option_map, ◌<◌};
 ghost use Rattle.text_model.specs.LimitTable.{LimitTable};
 ghost use Rattle.tcl_words.specs.Unread.{texts_of};

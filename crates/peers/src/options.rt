@@ -1,3 +1,5 @@
+//! The commands `configure` and `cget`.
+
 ghost use Rattle.std.specs.Prelude.{◌≡◌, ◌+◌, ◌≤◌, length, chars, Ok, ◌<◌, false, IfOk};
 ghost use Rattle.text_model.specs.LimitTable.{LimitTable};
 ghost use Rattle.tcl_words.specs.Unread.{texts_of};

@@ -1,3 +1,5 @@
+//! The commands `search`, `count` and `dump`, with their switches and options.
+
 ghost use Rattle.std.specs.Prelude.{◌≡◌, ◌+◌, ◌≤◌, length, map, chars, option_map, Ok, IfOk, IfSome, ◌<◌, false};
 ghost use Rattle.tcl_words.specs.Unread.{texts_of};
 ghost use Rattle.command_effects.specs.Faults.{with_value};

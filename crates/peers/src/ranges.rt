@@ -1,3 +1,5 @@
+//! Reads a run of words as indices.
+
 ghost use Rattle.std.specs.Prelude.{◌≡◌, ◌≢◌, ◌+◌, ◌-◌, ◌≤◌, length, Ok, Err, IfOk, IfErr, ◌<◌};
 ghost use Rattle.std.specs.List.{All};
 ghost use Rattle.tcl_words.specs.Unread.{texts_of};

@@ -1,3 +1,5 @@
+//! The subcommands of `tag`, except `tag delete`.
+
 ghost use Rattle.std.specs.Prelude.{◌+◌, ◌≤◌, ◌<◌, length, chars, option_map, IfOk};
 ghost use Rattle.text_model.specs.LimitTable.{LimitTable};
 ghost use Rattle.tcl_words.specs.Unread.{texts_of};

@@ -1,3 +1,5 @@
+//! The commands `insert` and `get`.
+
 ghost use Rattle.std.specs.Prelude.{◌≡◌, ◌+◌, ◌≤◌, length, filter, Ok, IfOk, ◌<◌};
 ghost use Rattle.tcl_words.specs.ListText.{list_text};
 ghost use Rattle.std.specs.List.{All};

@@ -1,3 +1,5 @@
+//! Whether a word can name a widget.
+
 ghost use Rattle.std.specs.Prelude.{◌≡◌, chars, false};
 ghost use Rattle.documents.specs.Kept.{is_window_name};
 

@@ -1,3 +1,5 @@
+//! The output line for the reply to a command or for a script fault, as borrowed parts.
+
 ghost use Rattle.std.specs.Prelude.{◌≡◌, ◌++◌, Ok, Err, chars};
 ghost use Rattle.tcl_words.specs.Unread.{texts_of};
 ghost use Rattle.command_effects.specs.Words.{literal};

@@ -1,3 +1,5 @@
+//! An inner node: its children, with the sum of lines, characters, marks and toggles below it.
+
 ghost use Rattle.std.specs.Prelude.{◌≡◌};
 
 use crate::names::Link;

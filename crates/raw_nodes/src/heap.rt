@@ -1,3 +1,5 @@
+//! The nodes in blocks of their own, reached by name: it adopts, lends, links and releases them.
+
 ghost use Rattle.raw_nodes.specs.Cells.{IsPlace, NotIn, ats, node_at, nodes_lent, nodes_own, number_in, put_at};
 ghost use Rattle.raw_nodes.specs.Cells.{without};
 ghost use Rattle.raw_nodes.specs.Chain.{afters_of, befores_of, contents_of};

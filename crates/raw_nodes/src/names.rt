@@ -1,3 +1,5 @@
+//! Names of nodes, which are pointers to their blocks, and links, which are names or null.
+
 ghost use Rattle.std.specs.Prelude.{◌≡◌, None, is_some};
 ghost use denote.RawPtr.{block_of, block_ptr, count_of};
 

@@ -1,3 +1,5 @@
+//! A node in memory, which is a line, an inner node or a spare, and the free rooms for children.
+
 ghost use Rattle.raw_nodes.specs.Chain.{room_in, rooms_for};
 ghost use Rattle.raw_nodes.specs.Links.{link_name};
 ghost use Rattle.raw_nodes.specs.Records.{blank, is_used, line_in, nones, record_in, slot_in, with_slot};

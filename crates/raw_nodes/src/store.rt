@@ -1,3 +1,5 @@
+//! The store of nodes: a map from names to lines and inner nodes, with spares that are reserved beforehand.
+
 ghost use Rattle.raw_nodes.specs.Cells.{AreApart, IsPlace, ats, number_in};
 ghost use Rattle.raw_nodes.specs.Chain as chain;
 ghost use Rattle.raw_nodes.specs.Chain.{IsChain, afters_of, befores_of, behind, flag_of, marks_of, nexts_of, room_of};

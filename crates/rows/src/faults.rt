@@ -1,3 +1,5 @@
+//! Prints the message of each fault, one per line.
+
 use peers::Fault;
 use std::io;
 use tcl_words::{ListFault, ScriptFault};

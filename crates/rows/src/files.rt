@@ -1,3 +1,5 @@
+//! Runs the rows of each file in a folder, and counts rows and failures.
+
 use crate::row::{Row, Taken};
 use crate::running::check_row;
 use crate::splitting::{check_list, check_words};

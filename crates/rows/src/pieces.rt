@@ -1,3 +1,5 @@
+//! A reader that returns a script in pieces of a maximum number of bytes.
+
 use std::io;
 use std::io::Read;
 

@@ -1,3 +1,5 @@
+//! A row: a script, its limits, and its expected output and exit status; read line by line from a file.
+
 use crate::spelling::push_spelled;
 use std::alloc::{AllocError, Global};
 use text_model::Limits;

@@ -1,3 +1,5 @@
+//! Runs a row on every store, with reads of several lengths, and compares its output and status.
+
 use crate::pieces::Pieces;
 use crate::row::{AMPLE, Numbers, Row};
 use line_lists::{LineStore, LineVec};

@@ -1,3 +1,5 @@
+//! Runs the script on standard input on a store given by name.
+
 use crate::row::AMPLE;
 use crate::running::limits_of;
 use line_lists::{LineStore, LineVec};

@@ -1,3 +1,5 @@
+//! Decodes texts in which `%` and two hexadecimal digits spell a byte.
+
 use std::alloc::AllocError;
 
 /// Adds a text in which `%` and two hexadecimal digits are one byte; false where such digits are missing.

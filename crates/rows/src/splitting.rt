@@ -1,3 +1,5 @@
+//! Splits the scripts and lists of rows, cut at each place, and compares their words with the expected ones.
+
 ghost use Rattle.std.specs.Prelude.{◌≡◌, ◌<◌, false};
 
 use crate::row::Row;

@@ -1,3 +1,5 @@
+//! A fixed buffer of output that is written when it is full or flushed.
+
 ghost use Rattle.std.specs.Prelude.{◌≡◌, ◌+◌, ◌≤◌, [], ◌++◌, true, false, not, nat_le, length};
 ghost use Rattle.printing.specs.Lines.{printed};
 ghost use Rattle.script_cli.specs.Sending.{Sends, Gathers};

@@ -1,3 +1,5 @@
+//! Runs a script: reads it, carries out its commands, and writes their output.
+
 ghost use Rattle.std.specs.Prelude.{◌≡◌, ◌≢◌, ◌+◌, ◌≤◌, ◌^◌, [], None, true, false, IfOk, IfErr, OnOk, OnErr, IsErrOf};
 ghost use Rattle.std.specs.Prelude.{is_ok, is_err, length};
 ghost use Rattle.script_cli.specs.Carrying.{Carried, Cuts};

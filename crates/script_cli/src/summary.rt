@@ -1,3 +1,5 @@
+//! How a run ends, with its exit status and its message for standard error.
+
 ghost use Rattle.std.specs.Prelude.{◌≡◌};
 ghost use Rattle.script_cli.specs.Status.{status_of, error_words};
 

@@ -1,3 +1,5 @@
+//! Takes the next command, carries it out, and prints its answer or its fault.
+
 ghost use Rattle.std.specs.Prelude.{◌≡◌, ◌<◌, false, true, not, None, Some, is_err, length, List, ℕ, encode_utf8_all};
 ghost use Rattle.tcl_words.specs.Unread.{texts_of};
 ghost use Rattle.peers.specs.World.{World as WorldState};

@@ -1,3 +1,5 @@
+//! Characters copied out of the store, a line at a time, from which a dump lists text.
+
 ghost use Rattle.std.specs.Prelude.{◌≡◌, ℕ, ◌≤◌, ◌+◌, ◌-◌, List, chars, codes, drop, length};
 ghost use Rattle.std.specs.Prelude.{slice_range, string_bytes, IfOk, OnOk};
 ghost use Rattle.std.specs.Str.{IsCharBoundary};

@@ -1,3 +1,5 @@
+//! The query `count`: the number of characters or lines between two places, as a list.
+
 ghost use Rattle.std.specs.Prelude.{◌≡◌, ◌≤◌, ◌+◌, ◌++◌, ◌∷◌, [], decimal, map, string_bytes, encode_utf8_all, IfOk};
 ghost use Rattle.std.specs.Prelude.{IsAscii, OnOk};
 ghost use Rattle.tcl_words.specs.ListText.{list_text};

@@ -1,3 +1,5 @@
+//! The marks that a widget can use, in the order in which a dump lists them.
+
 ghost use Rattle.std.specs.Prelude.{◌≡◌, ◌≤◌, ◌<◌, ◌+◌, chars, length};
 ghost use Rattle.text_model.specs.declared.limits.TheConstants.Limits.{MOST_WIDGETS};
 ghost use Rattle.std.specs.FinMap as finite;

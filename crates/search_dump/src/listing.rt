@@ -1,3 +1,5 @@
+//! Places of a view with their lines, and a list of keys, values and places.
+
 ghost use Rattle.std.specs.Prelude.{◌≡◌, ℕ, ◌≤◌, ◌+◌, ◌∷◌, List, [], chars, false, string_bytes, OnOk};
 ghost use Rattle.text_index.specs.Positions.{position_text};
 ghost use Rattle.tcl_words.specs.ListGrowth.{Goes};

@@ -1,3 +1,5 @@
+//! Finds the nearest match of a pattern in a stretch of the view, forwards or backwards.
+
 ghost use Rattle.std.specs.Prelude.{◌≡◌, ◌≤◌, ◌<◌, ◌+◌, ◌-◌, ◌&&◌, chars, length, max, min, nat_le, nat_lt};
 ghost use Rattle.std.specs.Prelude.{string_bytes, slice_range, IfOk, IsTrue};
 ghost use Rattle.search_dump.specs.Matches.{compared};

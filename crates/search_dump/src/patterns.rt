@@ -1,3 +1,5 @@
+//! Patterns of a search: case folding, the period of a pattern, and where it is in a text.
+
 ghost use Rattle.std.specs.Prelude.{◌≡◌, ◌+◌, chars, find, length, map, reverse, string_bytes, IfOk, IfSome};
 ghost use Rattle.ucd_case.specs.CaseFolding.{simple_fold};
 ghost use Rattle.std.specs.Option.{ForSome};

@@ -1,3 +1,5 @@
+//! The query `search`: its switches, and the places at which a pattern matches, as a list.
+
 ghost use Rattle.std.specs.Prelude.{◌≡◌, ◌≤◌, ◌<◌, ◌+◌, ◌^◌, chars, length, max, string_bytes, encode_utf8_all, None};
 ghost use Rattle.std.specs.Prelude.{IfOk, IfSome, OnOk};
 ghost use Rattle.tcl_words.specs.ListGrowth.{Goes};

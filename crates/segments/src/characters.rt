@@ -1,3 +1,5 @@
+//! The characters of a line as UTF-8, with their number: access, insertion and removal by column.
+
 ghost use Rattle.std.specs.Prelude.{◌≡◌, ◌+◌, ◌<◌, ◌≤◌, [], ◌∷◌, ◌++◌, ℕ, List, encode_utf8, length, take, drop};
 ghost use Rattle.std.specs.Prelude.{chars, string_bytes, slice_range, slice_get, None, Some, IfOk, IfSome, OnOk, OnErr};
 ghost use Rattle.std.specs.Prelude.{◌-◌, nat_lt, string_capacity, string_len};

@@ -1,3 +1,5 @@
+//! The two forms of a line, characters alone or with toggles and marks, and the changes between them.
+
 ghost use Rattle.std.specs.Prelude.{◌≡◌, ◌+◌, ◌<◌, ◌≤◌, false, true, chars, length, OnErr, OnOk, IfOk};
 ghost use Rattle.std.specs.FinMap as finite;
 ghost use Rattle.std.specs.FinSet as set;

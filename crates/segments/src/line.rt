@@ -1,3 +1,5 @@
+//! A line of text: its characters, and the toggles and marks at its columns.
+
 ghost use Rattle.std.specs.Prelude.{◌≡◌, ◌+◌, ◌-◌, ◌++◌, ◌<◌, ◌≤◌, false, length, take, slice_get};
 ghost use Rattle.std.specs.Prelude.{slice_range, Some, IfSome, IfOk, IfErr, OnOk, OnErr, chars, string_bytes};
 ghost use Rattle.std.specs.Prelude.{drop, option_map};

@@ -1,3 +1,5 @@
+//! The marks of a line as a list sorted by number, and how their columns change with edits.
+
 ghost use Rattle.std.specs.Prelude.{◌≡◌, ℕ, ◌+◌, ◌-◌, ◌<◌, ◌≤◌, ◌^◌, length, map, take, drop};
 ghost use Rattle.std.specs.Prelude.{slice_get, nat_le, nat_lt, if◌then◌else◌, min, OnOk, OnErr, IfOk};
 ghost use Rattle.std.specs.List.{All, filter};

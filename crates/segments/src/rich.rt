@@ -1,3 +1,5 @@
+//! A line with lists of toggles and marks, which are kept in step with its characters.
+
 ghost use Rattle.std.specs.Prelude.{◌≡◌, ◌+◌, ◌-◌, ◌++◌, ◌<◌, ◌≤◌, ◌^◌, false, true, length, take};
 ghost use Rattle.std.specs.Prelude.{slice_get, slice_range, Some, IfSome, IfOk, OnOk, OnErr, chars};
 ghost use Rattle.std.specs.Prelude.{string_bytes, drop, nat_lt, option_map, vec_capacity, vec_len};

@@ -1,3 +1,5 @@
+//! The toggles of a line as a list sorted by column and by word of slots, and how edits change them.
+
 ghost use Rattle.std.specs.Prelude.{◌≡◌, ℕ, ◌+◌, ◌<◌, ◌≤◌, ◌==◌, true, false, length, map, take, drop, vec_len};
 ghost use Rattle.std.specs.Prelude.{Option, Some, None, OnOk, OnErr, ◌-◌, ◌*◌, ◌++◌};
 ghost use Rattle.std.specs.Prelude.{slice_range, vec_capacity};

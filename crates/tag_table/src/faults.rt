@@ -1,3 +1,5 @@
+//! The fault of a call that moves an undefined tag, or moves a tag next to an undefined one.
+
 use thiserror::Error;
 
 /// Which of the tags that a call names isn't defined.

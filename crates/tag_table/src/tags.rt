@@ -1,3 +1,5 @@
+//! The tags of a text: their names in order of priority, and the slot of each.
+
 ghost use Rattle.std.specs.Prelude.{◌≡◌, ◌<◌, ◌≤◌, ◌↔◌, ◌∷◌, [], ◌++◌, length, take, slice_get, chars, string_bytes};
 ghost use Rattle.std.specs.Prelude.{None, Some, Ok, Err, IsNone, IfOk, IfErr, IfSome, OnOk, OnErr};
 ghost use Rattle.std.specs.Option.{option_map};

@@ -1,3 +1,5 @@
+//! The longest prefix of bytes that is UTF-8, and why it ends.
+
 ghost use Rattle.std.specs.Prelude.{◌≤◌, length, take, drop, IsUtf8};
 ghost use Rattle.tcl_words.specs.Encoding.{StopsAs};
 

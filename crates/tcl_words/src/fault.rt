@@ -1,3 +1,5 @@
+//! Why a script can't be split further, or that an allocation fails.
+
 ghost use Rattle.std.specs.Prelude.{◌≡◌};
 ghost use Rattle.tcl_words.specs.declared.fault.ScriptFault.{ScriptFault};
 ghost use Rattle.tcl_words.specs.declared.fault.ScriptFault.TheVariants.{Memory};

@@ -1,3 +1,5 @@
+//! Writes the words of a command from its text, with backslash escapes replaced.
+
 ghost use Rattle.std.specs.Prelude.{◌≡◌, ◌<◌, [], ◌∷◌, ◌++◌, ℕ, List, IfOk, OnOk, map, chars, length, ◌≤◌, IsUtf8};
 ghost use Rattle.std.specs.Prelude.{string_bytes, encode_utf8, encode_utf8_all};
 ghost use Rattle.tcl_words.specs.Scanning.{pieces_from, word_with, words_after, word_after, words_on};

@@ -1,3 +1,5 @@
+//! How many bytes of the script are checked as UTF-8 and scanned, and where the next command ends.
+
 ghost use Rattle.std.specs.Prelude.{◌≡◌, IfOk, IfNone};
 ghost use Rattle.tcl_words.specs.Progression.{IsProgress, IsNext, text_end, last_command, starting_at};
 ghost use Rattle.tcl_words.specs.Unread.{HasNoFault};

@@ -1,3 +1,5 @@
+//! Scans bytes for the end of a command or a script fault.
+
 ghost use Rattle.std.specs.Prelude.{◌≡◌, ◌+◌, ◌≤◌, length};
 ghost use Rattle.tcl_words.specs.Scanning.{scanned};
 ghost use Rattle.tcl_words.specs.Steps.{depth_of};

@@ -1,3 +1,5 @@
+//! Splits a script, fed in pieces of any length, into commands of words.
+
 ghost use Rattle.std.specs.Prelude.{◌≡◌, ◌≢◌, ◌<◌, ◌≤◌, List, ℕ, length, take, drop, IsUtf8, vec_len, ◌+◌, true, false};
 ghost use Rattle.std.specs.Prelude.{IfOk, IfErr, OnOk, OnErr, IsSome, IsOk, IfSome, IfNone};
 ghost use Rattle.tcl_words.specs.Progression.{IsCommandOf, IsFound};

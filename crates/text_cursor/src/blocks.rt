@@ -1,3 +1,5 @@
+//! Blocks of consecutive parts of a text, with their number of characters, which a cursor passes whole.
+
 ghost use Rattle.std.specs.Prelude.{◌≡◌, ◌<◌, ◌≤◌, ◌^◌, true, false, length};
 ghost use Rattle.text_cursor.specs.Parts.{parts_len, turned_if, EndsWith};
 

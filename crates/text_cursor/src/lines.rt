@@ -1,3 +1,5 @@
+//! The offsets at which the line of an offset and the line after it begin.
+
 ghost use Rattle.std.specs.Prelude.{◌≡◌, ◌≤◌, length};
 ghost use Rattle.text_cursor.specs.Around.{next_line};
 ghost use Rattle.text_model.specs.Content.{characters};

@@ -1,3 +1,5 @@
+//! A text as parts of an old text and of inserted characters, each part with its tag slots.
+
 use text_model::TagSet;
 
 /// The characters from one offset to another of an old text, or of those that were put in, which have the slots.

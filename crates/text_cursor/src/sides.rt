@@ -1,3 +1,5 @@
+//! The parts of a text on one side of a cursor: the near ones one by one, and those far off in blocks.
+
 ghost use Rattle.std.specs.Prelude.{◌≡◌, ◌<◌, ◌≤◌, ◌^◌, ◌++◌, ◌∷◌, [], length, drop, option_to_list, reverse, OnOk};
 ghost use Rattle.std.specs.Prelude.{IfSome, IfNone, false};
 ghost use Rattle.text_cursor.specs.Parts.{parts_len, turned_if, EndsWith};

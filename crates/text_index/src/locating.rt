@@ -1,3 +1,5 @@
+//! Reads a word as an index and returns the place in a view that it stands for.
+
 ghost use Rattle.std.specs.Prelude.{◌≡◌, ◌≢◌, ◌≤◌, ◌<◌, ◌+◌, length, chars, IfOk};
 ghost use Rattle.text_model.specs.declared.limits.TheConstants.Limits.{MOST_WIDGETS};
 ghost use Rattle.text_index.specs.Views.{shown, IsView};

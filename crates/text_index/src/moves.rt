@@ -1,3 +1,5 @@
+//! Moves from a place of a view by characters or lines, and to the starts and ends of words and lines.
+
 ghost use Rattle.std.specs.Prelude.{◌≡◌, ◌≤◌, ◌<◌, ◌+◌, ◌-◌, min, length, take, drop};
 ghost use Rattle.std.specs.List.{prefix_len, suffix_len};
 ghost use Rattle.text_model.specs.Lines.{lines, line_of};

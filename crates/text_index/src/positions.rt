@@ -1,3 +1,5 @@
+//! Writes places of a view or of a line as `line.char`.
+
 ghost use Rattle.std.specs.Prelude.{◌≡◌, ℕ, ◌≤◌, ◌+◌, ◌-◌, ◌++◌, ◌∷◌, List, chars, string_bytes, decimal, OnOk, OnErr};
 ghost use Rattle.std.specs.Prelude.{IsAscii};
 ghost use Rattle.text_model.specs.Lines.{IsLineOf};

@@ -1,3 +1,5 @@
+//! The place of a view that an index stands for: the place of its base, moved by each modifier in turn.
+
 ghost use Rattle.std.specs.Prelude.{◌≡◌, suc, ◌≤◌, ◌<◌, ◌+◌, None, Some, IfOk, IfSome};
 ghost use Rattle.text_index.specs.Views.{shown, shown_flags, shown_mark, IsView};
 ghost use Rattle.text_index.specs.Values.{line_value, base_value, modified, modified_by, index_value};

@@ -1,3 +1,5 @@
+//! The part of a text that a widget shows, with places and lines counted from its start.
+
 ghost use Rattle.std.specs.Prelude.{◌≡◌, ℕ, suc, ◌≤◌, ◌<◌, ◌+◌, ◌-◌, None, Some, length, slice_index, IfSome, IsTrue};
 ghost use Rattle.text_model.specs.Content.{characters};
 ghost use Rattle.text_model.specs.Lines.{IsLineOf, IsLineStart, lines, line_of, line_start};

@@ -1,3 +1,5 @@
+//! The test of whether a character belongs to a word: a letter, a decimal digit or an underscore.
+
 ghost use Rattle.std.specs.Prelude.{◌≡◌};
 ghost use Rattle.text_index.specs.Words.{is_word};
 ghost use Rattle.text_index.specs.WordRows.{newline-is-no-word};

@@ -1,3 +1,5 @@
+//! The trait of tests that decide which characters make a run.
+
 ghost use Rattle.std.specs.Prelude.{◌≡◌, ℕ, Bool, false};
 
 /// Which characters make a run. No newline does, so that a run lies in one line.

@@ -1,3 +1,5 @@
+//! Edits of a text as lists of steps, which are made in order, all or none.
+
 ghost use Rattle.std.specs.Prelude.{◌≡◌, ◌∷◌, [], ◌++◌, OnOk, OnErr};
 
 use crate::places::{MarkNo, Place, TagSlot};

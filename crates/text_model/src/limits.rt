@@ -1,3 +1,5 @@
+//! How much a program lets its texts grow.
+
 ghost use Rattle.std.specs.Prelude.{◌≡◌, ◌↔◌, IsSome, IfSome};
 ghost use Rattle.text_model.specs.LimitTable.{AreLimits};
 

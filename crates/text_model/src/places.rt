@@ -1,3 +1,5 @@
+//! Numbers of tags and marks, the places of marks with their gravity, and the spans of lines.
+
 ghost use Rattle.std.specs.Prelude.{◌≡◌, ◌+◌, ◌^◌, ◌<◌, ◌≤◌};
 
 /// The number by which a store knows a tag, below `TagSet::SLOTS`.

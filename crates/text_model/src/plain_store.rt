@@ -1,3 +1,5 @@
+//! The plainest store, a list of cells and the places of the marks, by which the other stores are judged.
+
 ghost use Rattle.std.specs.Prelude.{◌≡◌, ◌+◌, ◌-◌, ◌++◌, ◌∷◌, [], ◌^◌, ◌<◌, ◌≤◌, ℕ, ⊤, map, vec_len, length, max};
 ghost use Rattle.std.specs.Prelude.{get_or, slice_get, OnOk, IfOk, None, Some, chars, string_bytes, option_map};
 ghost use Rattle.std.specs.List.{prefix_len, suffix_len};

@@ -1,3 +1,5 @@
+//! Some tag slots of one 64-bit word of a set, as bits.
+
 ghost use Rattle.std.specs.Prelude.{◌≡◌, ◌<◌, true};
 ghost use Rattle.std.specs.FinSet as set;
 ghost use Rattle.text_model.specs.OneWord.{IsOneWord, slots_in, word_index};

@@ -1,3 +1,5 @@
+//! The trait of what stores a text with tags and marks: queries, and edits that are prepared and then committed.
+
 ghost use Rattle.std.specs.Prelude.{◌≡◌, ◌+◌, ◌-◌, ◌<◌, ◌≤◌, length, slice_range, slice_get, Some, IfOk, IfSome, chars};
 ghost use Rattle.std.specs.Prelude.{drop, string_bytes, take};
 ghost use Rattle.std.specs.FinMap as finite;

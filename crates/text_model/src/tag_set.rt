@@ -1,3 +1,5 @@
+//! Sets of tag slots, as bits in a fixed number of 64-bit words.
+
 ghost use Rattle.std.specs.Prelude.{◌≡◌, ◌<◌, ◌≤◌, bit_xor, slice_index, true};
 ghost use Rattle.std.specs.FinSet as set;
 ghost use Rattle.text_model.specs.OneWord.{AreSlots, IsOneWord, in_word, word_count};

@@ -1,3 +1,5 @@
+//! A string that contracts see as the list of its characters.
+
 ghost use Rattle.std.specs.Prelude.{◌≡◌, chars, string_bytes, encode_utf8_all};
 
 use std::marker::Model;

@@ -1,3 +1,5 @@
+//! The sums of the lines that are removed and of those that replace them, and how the slots toggled in both compare.
+
 ghost use Rattle.std.proofs.Props.{props};
 ghost use Rattle.std.specs.Prelude.{◌≡◌, false, true};
 ghost use Rattle.toggle_sums.specs.Counts.{AreLevel, ArePart, HaveSameToggles, IsWithin, no_text};

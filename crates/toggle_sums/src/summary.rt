@@ -1,3 +1,5 @@
+//! The trait of what can be added up over a list, from either end and in any grouping.
+
 ghost use Rattle.std.specs.Prelude.{◌≡◌};
 
 /// What can be added up over a list, from either end and in any grouping.

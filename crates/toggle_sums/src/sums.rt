@@ -1,3 +1,5 @@
+//! The sum of some lines: the numbers of lines, characters and marks, and which tag slots are toggled in them.
+
 ghost use Rattle.std.specs.Prelude.{◌≡◌, ◌*◌, ◌<◌, ◌≤◌, true};
 ghost use Rattle.std.specs.FinSet as set;
 ghost use Rattle.text_model.specs.SlotSets.{differing};

@@ -1,3 +1,5 @@
+//! The parity and presence of toggles in some lines, as bits by slot, of which only the words in use are visited.
+
 ghost use Rattle.std.specs.Prelude.{◌≡◌, ◌+◌, ◌*◌, ◌^◌, ◌<◌, ◌≤◌, slice_index, bit_or, bit_xor, length};
 ghost use Rattle.std.specs.Prelude.{true};
 ghost use Rattle.std.specs.FinSet as set;

@@ -1,3 +1,5 @@
+//! A tree with its number of lines, which checks at run time what its calls require.
+
 ghost use Rattle.std.specs.Prelude.{◌≡◌, ◌+◌, ◌<◌, ◌≤◌, length, true};
 ghost use Rattle.toggle_sums.specs.Counts.{plus};
 ghost use Rattle.line_lists.specs.Lists.{count_of};

@@ -1,3 +1,5 @@
+//! A counter of steps that can be read and reset.
+
 use raw_nodes::{Steps, Ticks};
 
 /// A count of steps that can be read.

@@ -1,3 +1,5 @@
+//! Pseudo-random numbers, sample lines, and their sums with overflow checks.
+
 ghost use Rattle.std.specs.Prelude.{◌≡◌, true, IfSome};
 ghost use Rattle.toggle_sums.specs.Counts.{plus};
 ghost use Rattle.line_lists.specs.Lists.{count_of};

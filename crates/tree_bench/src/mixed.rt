@@ -1,3 +1,5 @@
+//! Compares the tree with a plain list of line lengths during random splices, insertions and removals.
+
 ghost use Rattle.std.specs.Prelude.{◌+◌, ◌≤◌, length};
 
 use crate::counted::{Counted, insert, remove, splice, whole};

@@ -1,3 +1,5 @@
+//! Repeats creation and reservation after a failed allocation, and checks that the tree is unchanged.
+
 use crate::counted::{Counted, new_tree, reserve};
 use crate::counter::Counter;
 use crate::mixed::{Mixed, mix, mixed_of, put_in, walk_faults};

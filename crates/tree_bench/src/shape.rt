@@ -1,3 +1,5 @@
+//! Walks all nodes of a tree, and counts wrong links, sizes and numbers of children.
+
 ghost use Rattle.std.specs.Prelude.{◌≡◌, ◌-◌, ◌<◌, Some};
 ghost use Rattle.raw_nodes.specs.Names.{IsName, records};
 ghost use Rattle.raw_nodes.specs.declared.names.NodePtr.{NodePtr};

@@ -1,3 +1,5 @@
+//! The workloads of the benchmark: inserts, removes and visits many lines of a tree.
+
 use crate::counted::{Counted, insert, remove, splice};
 use crate::counter::Counter;
 use crate::lines::{Numbers, make_lines};

@@ -1,3 +1,5 @@
+//! Actions of the history, a text inserted or deleted at an offset, and the kinds of edits that they belong to.
+
 use text_model::Text;
 
 /// A text that was put in at an offset, or taken out there. Offsets count characters from the start of the text.

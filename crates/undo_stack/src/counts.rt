@@ -1,3 +1,5 @@
+//! Counts the actions made, reverted and repeated, from which it is known whether a text is modified.
+
 ghost use Rattle.std.specs.Prelude.{◌≡◌};
 ghost use Rattle.undo_stack.specs.Modified.{unmodified, is_modified, counted_up, counted_down, counted_new, set_to};
 ghost use Rattle.undo_stack.specs.Modified.{times};

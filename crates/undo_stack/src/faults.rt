@@ -1,3 +1,5 @@
+//! The reasons for which nothing is undone or redone.
+
 use thiserror::Error;
 
 /// Why nothing is undone or redone.

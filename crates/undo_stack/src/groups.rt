@@ -1,3 +1,5 @@
+//! A group of actions as a range of the history's list, in the order in which they were made.
+
 ghost use Rattle.std.specs.Prelude.{◌≡◌, ◌<◌, ◌≤◌, ◌+◌, Some, length, take, drop, slice_get};
 ghost use Rattle.std.specs.VecDeque.{deque_len};
 

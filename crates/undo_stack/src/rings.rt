@@ -1,3 +1,5 @@
+//! Drops actions from the start of a ring buffer, and releases capacity that a buffer no longer needs.
+
 ghost use Rattle.std.specs.Prelude.{◌≡◌, ◌≤◌, ◌+◌, drop};
 ghost use Rattle.std.specs.VecDeque.{deque_len, deque_capacity};
 

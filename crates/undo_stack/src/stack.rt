@@ -1,3 +1,5 @@
+//! The history of a text: groups of actions to be undone and redone, with a limit on their number.
+
 ghost use Rattle.std.specs.Prelude.{◌≡◌, ◌≤◌, ◌<◌, ◌+◌, [], true, false, drop, OnOk, IsOk, IsSome, IfSome};
 ghost use Rattle.std.specs.Prelude.{IfErr, ◌↔◌, length};
 ghost use Rattle.undo_stack.specs.History.{no_history, changes_kind, joined, limit_of, newest, noted, separated};

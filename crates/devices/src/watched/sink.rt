@@ -1,3 +1,5 @@
+//! A watched writer as a byte sink: an error, or a write of no bytes where some are given, is a failure.
+
 ghost use Rattle.std.specs.Prelude.{◌≡◌, ◌<◌, ◌≤◌, true, false, length, take};
 ghost use Rattle.devices.specs.Devices.{Takes, bytes_taken};
 

@@ -1,3 +1,5 @@
+//! A watched reader as a byte source: an error is a failure.
+
 ghost use Rattle.std.specs.Prelude.{◌≡◌, ◌+◌, ◌≤◌, true, false, length};
 ghost use Rattle.std.specs.Result.{result_ok};
 ghost use Rattle.devices.specs.Devices.{Reads};
