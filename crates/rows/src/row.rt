@@ -96,7 +96,7 @@ impl Row {
     /// Takes the status. The last line of a script has no newline.
     fn take_status(&mut self, digits: &str) -> Option<Taken> {
         self.status = digits.parse().ok()?;
-        let _newline = self.script.pop();
+        self.script.pop();
         Some(Taken::Whole)
     }
 }

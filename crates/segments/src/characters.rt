@@ -234,8 +234,6 @@ impl Characters {
     {
         let byte = byte_of(self.text.as_str(), self.count, column);
         self.text.insert_str(byte, text)?;
-        // There are no more characters than bytes, whose number fits.
-        let _bytes = self.text.len();
         self.count += count_characters(text);
         Ok(())
     }
@@ -285,8 +283,6 @@ impl Characters {
         ensures refused { OnErr result (self.new ≡ self.old) }
     {
         self.text.push_str(other.text.as_str())?;
-        // There are no more characters than bytes, whose number fits.
-        let _bytes = self.text.len();
         self.count += other.count;
         Ok(())
     }

@@ -142,7 +142,7 @@ fn put_entry(toggles: &mut Vec<Toggled>, index: usize, entry: Toggled)
     ensures len { vec_len toggles.new ≡ vec_len toggles.old + 1 }
     ensures capacity { vec_capacity toggles.new ≡ vec_capacity toggles.old }
 {
-    let _put = toggles.insert(index, entry);
+    let _ = toggles.insert(index, entry);
 }
 
 /// Toggles slots of one word at a column, where there is room for one entry more.

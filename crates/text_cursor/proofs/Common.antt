@@ -1,6 +1,6 @@
 -- The names that most proofs of this crate cite, passed on from one place. Declares nothing.
-pub use Rattle.std.proofs.Common.{[], ap₂, ℕ, ◌++◌, ◌+◌, ◌-◌, ◌/◌, ◌<◌, ◌∙◌, ◌∷◌, ◌≡◌, ◌≤◌, Bool, List, None, Option}
-pub use Rattle.std.proofs.Common.{Some, ap, append_assoc, arith, cond, drop, eq-eqb, false, get_or, length}
+pub use Rattle.std.proofs.Common.{[], ap₂, ℕ, ◌++◌, ◌+◌, ◌-◌, ◌/◌, ◌<◌, ◌^◌, ◌∙◌, ◌∷◌, ◌≡◌, ◌≤◌, Bool, List, None}
+pub use Rattle.std.proofs.Common.{Option, Some, ap, append_assoc, arith, cond, drop, eq-eqb, false, get_or, length}
 pub use Rattle.std.proofs.Common.{length-append, length-drop, length-take, map, ne_eqb, refl, subst, suc, sym, take}
 pub use Rattle.std.proofs.Common.{true, zero}
 pub use Rattle.std.proofs.Math.Seq.{take-add}

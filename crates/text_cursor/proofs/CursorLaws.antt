@@ -9,7 +9,7 @@ use Rattle.text_cursor.proofs.Common.{All-pop, All-same, All-weaker, sum_by-appe
 use Rattle.text_cursor.proofs.Common.{cells_of, inserted, removed, take-removed, drop-removed, Cursor, Part, parts_len}
 use Rattle.text_cursor.proofs.Common.{turned_if, side_parts, Block, cells_between, part_cells, front_cells}
 use Rattle.text_cursor.proofs.Common.{behind_cells, source_len, cursor_cells, cursor_parts, PartFits, IsCursor, Moves}
-use Rattle.text_cursor.proofs.Common.{Takes, Puts, Bool, true, false}
+use Rattle.text_cursor.proofs.Common.{Takes, Puts, Bool, true, false, ◌^◌}
 use Rattle.text_cursor.proofs.RiseLaws.{rise-across, rise-along, rise-cut, rise-dropped, rise-trimmed, rise-put}
 use Rattle.text_cursor.proofs.SideLaws.{len-append, len-cons, turned-len, turned-length}
 
@@ -146,6 +146,7 @@ moves-back {before} {now} part is ways front behind fresh old_len len at =
             (All-push P (side_parts before.behind) part is.behind parts.1));
         place = omega (arith, front_len, place, at);
         whole = omega (arith, front_len, behind_len, place, whole, at, len);
+        fits = let fits = is.fits in omega (arith, fits, len);
         ahead = ways.ahead ∙ is.ahead;
         turned = ways.turned ∙ is.turned;
         rising = rise-across before.old_len now.old_len (side_parts now.front) (side_parts before.behind) (part ∷ [])
@@ -183,6 +184,7 @@ moves-over {before} {now} part is ways behind front fresh old_len len at =
         behind = subst (λ (Q : Part → Type 0). All Q (side_parts now.behind)) (sym fits_same) parts.0;
         place = omega (arith, front_len, place, at);
         whole = omega (arith, behind_len, whole, at, len);
+        fits = let fits = is.fits in omega (arith, fits, len);
         ahead = ways.ahead ∙ is.ahead;
         turned = ways.turned ∙ is.turned;
         rising = rise-along before.old_len now.old_len (side_parts before.front) (side_parts now.behind) (part ∷ [])
@@ -230,6 +232,7 @@ moves-in {before} {now} part rest most is ways behind some short behind_is front
             (All-push P rest last parts.0 (record { some = omega (arith, short); within = within })));
         place = omega (arith, front_len, place, at);
         whole = omega (arith, old_behind, behind_len, whole, at, len, short);
+        fits = let fits = is.fits in omega (arith, fits, len);
         ahead = ways.ahead ∙ is.ahead;
         turned = ways.turned ∙ is.turned;
         rising = rise-cut before.old_len now.old_len (side_parts before.front) rest part (part.from + most)
@@ -369,6 +372,7 @@ leaps-back {before} {now} block is ways front_has behind_has fresh old_len len a
             (All-append P (side_parts before.behind) (reverse parts) is.behind (reverse-fit P parts split.1)));
         place = omega (arith, front_len, place, at, counted);
         whole = omega (arith, front_len, behind_len, place, whole, at, len, counted);
+        fits = let fits = is.fits in omega (arith, fits, len);
         ahead = ways.ahead ∙ is.ahead;
         turned = ways.turned ∙ is.turned;
         rising = rise-across before.old_len now.old_len (side_parts now.front) (side_parts before.behind) parts
@@ -414,6 +418,7 @@ leaps-on {before} {now} block is ways behind_has front_has fresh old_len len at 
         behind = subst (λ (Q : Part → Type 0). All Q (side_parts now.behind)) (sym fits_same) split.0;
         place = omega (arith, front_len, place, at, counted);
         whole = omega (arith, behind_len, place, whole, at, len, counted);
+        fits = let fits = is.fits in omega (arith, fits, len);
         ahead = ways.ahead ∙ is.ahead;
         turned = ways.turned ∙ is.turned;
         rising = rise-along before.old_len now.old_len (side_parts before.front) (side_parts now.behind) parts
@@ -543,6 +548,7 @@ takes-part {before} {now} part is ways behind front fresh old_len at len =
         behind = subst (λ (Q : Part → Type 0). All Q (side_parts now.behind)) (sym fits_same) parts.0;
         place = ap parts_len front ∙ is.place ∙ sym at;
         whole = omega (arith, behind_len, whole, at, len);
+        fits = let fits = is.fits in omega (arith, fits, len);
         ahead = ways.ahead ∙ is.ahead;
         turned = ways.turned ∙ is.turned;
         rising = rise-dropped before.old_len now.old_len (side_parts before.front) (side_parts now.behind) part
@@ -593,6 +599,7 @@ takes-some {before} {now} part rest most is ways behind short behind_is front fr
             (All-push P rest last parts.0 (record { some = omega (arith, short); within = within })));
         place = ap parts_len front ∙ is.place ∙ sym at;
         whole = omega (arith, old_behind, behind_len, whole, at, len, short);
+        fits = let fits = is.fits in omega (arith, fits, len);
         ahead = ways.ahead ∙ is.ahead;
         turned = ways.turned ∙ is.turned;
         rising = rise-trimmed before.old_len now.old_len (side_parts before.front) rest part (part.from + most)
@@ -692,8 +699,8 @@ pub puts-some : {before now : Cursor} (text : List ℕ) (slots : Slots) → IsCu
     } ∷ []
     → side_parts now.behind ≡ side_parts before.behind → now.old_len ≡ before.old_len →
     now.at ≡ before.at + length text →
-    now.len ≡ before.len + length text → Puts text slots before now
-puts-some {before} {now} text slots is some ways fresh front behind old_len at len =
+    now.len ≡ before.len + length text → before.len + length text < 2 ^ 64 → Puts text slots before now
+puts-some {before} {now} text slots is some ways fresh front behind old_len at len small =
     let new = before.fresh.items in
     let longer : length now.fresh.items ≡ length new + length text = ap length fresh ∙ length-append new text in
     let part : Part = record { from = length new; to = length now.fresh.items; slots = Some slots } in
@@ -719,6 +726,7 @@ puts-some {before} {now} text slots is some ways fresh front behind old_len at l
             (fit-more before.old_len new text (side_parts before.behind) is.behind));
         place = omega (arith, front_len, place, at, longer);
         whole = let same = ap parts_len behind in omega (arith, same, whole, at, len);
+        fits = omega (arith, small, len);
         ahead = ways.ahead ∙ is.ahead;
         turned = ways.turned ∙ is.turned;
         rising = rise-put before.old_len now.old_len (side_parts before.front) (side_parts before.behind) (length new)

@@ -1,6 +1,6 @@
 -- A text on the way from an old one: parts of that and texts that were put in, around a place.
-use Rattle.std.specs.Prelude.{◌≡◌, ℕ, ◌+◌, ◌-◌, ◌<◌, ◌≤◌, List, [], ◌∷◌, ◌++◌, length, reverse, slice_range, get_or}
-use Rattle.std.specs.Prelude.{Option, None, Some, true, false}
+use Rattle.std.specs.Prelude.{◌≡◌, ℕ, ◌+◌, ◌-◌, ◌<◌, ◌≤◌, ◌^◌, List, [], ◌∷◌, ◌++◌, length, reverse, slice_range}
+use Rattle.std.specs.Prelude.{get_or, Option, None, Some, true, false}
 use Rattle.std.specs.List.{All}
 use Rattle.text_model.specs.declared.cells.Cell.{Cell}
 use Rattle.std.specs.FinSet as set
@@ -60,12 +60,14 @@ Rise border len [] = border ≤ len
 Rise border len (part ∷ parts) =
     (border ≤ old_place part.slots part.from border) × Rise (old_place part.slots part.to border) len parts
 
--- the parts fit and rise, the place and the length are those of the parts, and only those behind the place stand turned
+-- the parts fit and rise, the place and the length, which fits a usize, are those of the parts, and only those behind
+-- the place stand turned
 pub record IsCursor (cursor : Cursor) : Type 0 where
   pub front : All (PartFits cursor.old_len (length cursor.fresh.items)) (side_parts cursor.front)
   pub behind : All (PartFits cursor.old_len (length cursor.fresh.items)) (side_parts cursor.behind)
   pub place : parts_len (side_parts cursor.front) ≡ cursor.at
   pub whole : cursor.at + parts_len (side_parts cursor.behind) ≡ cursor.len
+  pub fits : cursor.len < 2 ^ 64
   pub ahead : cursor.front.turned ≡ false
   pub turned : cursor.behind.turned ≡ true
   pub rising : Rise 0 cursor.old_len (cursor_parts cursor)

@@ -83,8 +83,6 @@ impl Cursor {
         ensures moves { OnOk result (Moves self.old self.new) }
         ensures back { OnOk result (self.new.at < self.old.at) }
     {
-        // Read, so that the prover sees its range.
-        let _len = self.len;
         self.behind.make_room()?;
         let Some(part) = self.front.pop() else {
             return Ok(());
@@ -104,8 +102,6 @@ impl Cursor {
         ensures on { OnOk result (self.old.at < self.new.at) }
         ensures bound { OnOk result (self.new.at ≤ self.old.at + most) }
     {
-        // Read, so that the prover sees its range.
-        let _len = self.len;
         self.front.make_room()?;
         let Some(part) = self.behind.pop() else {
             return Ok(());
@@ -138,8 +134,6 @@ impl Cursor {
         ensures back { IfOk result (λ leapt. leapt ≡ true → self.new.at < self.old.at) }
         ensures stays { IfOk result (λ leapt. leapt ≡ false → self.new.at ≡ self.old.at) }
     {
-        // Read, so that the prover sees its range.
-        let _len = self.len;
         let Some(block) = self.front.pop_block(most, true) else {
             return Ok(false);
         };
@@ -157,8 +151,6 @@ impl Cursor {
         ensures bound { OnOk result (beyond ≡ false → self.new.at ≤ self.old.at + most) }
         ensures stays { IfOk result (λ leapt. leapt ≡ false → self.new.at ≡ self.old.at) }
     {
-        // Read, so that the prover sees its range.
-        let _len = self.len;
         let Some(block) = self.behind.pop_block(most, beyond) else {
             return Ok(false);
         };
@@ -493,8 +485,6 @@ impl Cursor {
         ensures { result ≡ line_start 1 (behind_text (S.content store.now).cells self.now.fresh.items
             (block_parts true self.now.behind.far.items)) }
     {
-        // Read, so that the prover sees its range.
-        let _len = self.len;
         let mut left = self.behind.far.len();
         let mut far = 0;
         while left > 0 {

@@ -20,3 +20,4 @@ returns c =
     c.in_ok-make_room.ensures.parts ∙ ap₂ (λ (a b : _). side_parts own.front
     ++ record { from = a; to = b; slots = Some c.args.slots } ∷ []) from_is to_is)
     refl refl (ap (λ n. own.at + n) counted) (ap (λ n. own.len + n) counted)
+    (let fits = c.requires.fits in omega (arith, fits, counted))
