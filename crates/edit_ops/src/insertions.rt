@@ -18,11 +18,11 @@ ghost use Rattle.text_model.specs.Content.{slot_sets, slots_left_of};
 ghost use Rattle.text_model.specs.Steps.{Fits, after};
 
 use crate::faults::EditFault;
-use crate::outlines::Outline;
+use crate::outlines::{Insertion, Outline};
 use crate::plans::{Plan, prepare};
 use crate::slotted_texts::SlottedText;
 use crate::texts::{EditRules, EditedText};
-use std::alloc::{AllocError, Global};
+use std::alloc::AllocError;
 use text_model::{Limits, TagSet, Text, TextStore, count_characters};
 use undo_stack::EditKind;
 
@@ -125,44 +125,57 @@ fn slots_or(slots: Option<TagSet>, before: &TagSet, behind: &TagSet) -> TagSet
     }
 }
 
+/// A gap between two characters of a text of `len` characters: the offset of the one after it, the slots of the one
+/// before it, none at the start, and those of the one after it.
+#[derive(Clone, Copy)]
+pub struct Gap {
+    pub at: usize,
+    pub len: usize,
+    pub before: TagSet,
+    pub behind: TagSet,
+}
+
 impl Outline {
-    /// Puts texts in at an offset of a text of so many characters, each right behind the one before it, with the texts
-    /// of the actions where these are to be kept. The characters before the offset and behind it have these slots, and
-    /// a text that has none of its own gets those that they share. Where the last text ends.
+    /// Inserts texts into a gap, each right after the one before it, with the texts of the actions where these are to
+    /// be kept. A text that has no slots of its own gets those that the characters on both sides share. Returns where
+    /// the last text ends.
     pub fn insert_pieces(
         &mut self,
-        at: usize,
         pieces: Vec<SlottedText>,
-        before: TagSet,
-        behind: &TagSet,
-        len: usize,
+        gap: &Gap,
         keeps: bool,
     ) -> Result<usize, AllocError>
-        requires within { at < len }
-        requires stand { All (AnchorsStand len) self.old.anchors }
-        requires fits { len + total pieces.items < 2 ^ 64 }
-        ensures end { IfOk result (λ end. end ≡ at + total pieces.items) }
+        requires within { gap.now.at < gap.now.len }
+        requires stand { All (AnchorsStand gap.now.len) self.old.anchors }
+        requires fits { gap.now.len + total pieces.items < 2 ^ 64 }
+        ensures end { IfOk result (λ end. end ≡ gap.now.at + total pieces.items) }
         ensures widgets { OnOk result (length self.new.anchors ≡ length self.old.anchors) }
         ensures makes { OnOk result ((recording : Recording) (kind : EditKind) (state : State) →
             (recording.undo ≡ true → keeps ≡ true) →
             Fits self.old.steps state.content →
-            IsBetween (needs_shared pieces.items) (set.intersection before behind.now) behind.now len at
-            (after self.old.steps state.content).cells →
+            IsBetween (needs_shared pieces.items) (set.intersection gap.now.before gap.now.behind) gap.now.behind
+            gap.now.len gap.now.at (after self.old.steps state.content).cells →
             Fits self.new.steps state.content
-            × (length (after self.new.steps state.content).cells ≡ len + total pieces.items) ×
+            × (length (after self.new.steps state.content).cells ≡ gap.now.len + total pieces.items) ×
             (outlineed recording kind self.new state
-            ≡ inserted_texts recording kind at pieces.items (outlineed recording kind self.old state))) }
-        ensures steps { OnOk result (GoesOn at pieces.items self.old.steps self.new.steps) }
+            ≡ inserted_texts recording kind gap.now.at pieces.items (outlineed recording kind self.old state))) }
+        ensures steps { OnOk result (GoesOn gap.now.at pieces.items self.old.steps self.new.steps) }
     {
-        let mut at = at;
-        let mut len = len;
-        let mut slots = before;
+        let mut at = gap.at;
+        let mut len = gap.len;
+        let mut slots = gap.before;
         for piece in pieces {
             let count = count_of(&piece.text);
             if count > 0 {
-                slots = slots_or(piece.slots, &slots, behind);
+                slots = slots_or(piece.slots, &slots, &gap.behind);
                 let kept = self.kept_copy(&piece.text, keeps)?;
-                self.insert(at, piece.text, kept, slots, count, len)?;
+                let insertion = Insertion {
+                    at,
+                    count,
+                    len,
+                    slots,
+                };
+                self.insert(piece.text, kept, insertion)?;
                 at += count;
                 len += count;
             }
@@ -171,20 +184,19 @@ impl Outline {
     }
 }
 
-/// The edit that puts texts in at an offset, with the texts of its actions where these are to be kept.
+/// The edit that inserts texts at an offset, with the texts of its actions where these are to be kept.
 fn outline_insert<S: TextStore>(
-    alloc: Global,
+    rules: &EditRules<'_>,
     text: &EditedText<S>,
     at: usize,
     pieces: Vec<SlottedText>,
-    keeps: bool,
 ) -> Result<Outline, AllocError>
     requires within { at < length (S.content text.now.store).cells }
     requires stand { All (AnchorsStand (length (S.content text.now.store).cells)) text.now.anchors.items }
     requires fits { length (S.content text.now.store).cells + total pieces.items < 2 ^ 64 }
     ensures widgets { IfOk result (λ outline. length outline.anchors ≡ length text.now.anchors.items) }
     ensures makes { IfOk result (λ outline. (recording : Recording) (kind : EditKind) (log : Log) →
-        (recording.undo ≡ true → keeps ≡ true) →
+        (recording.undo ≡ true → rules.now.recording.undo ≡ true) →
         Fits outline.steps (S.content text.now.store) ×
         (outlineed recording kind outline (state_of (S.content text.now.store) text.now.anchors.items log)
         ≡ inserted_texts recording kind at pieces.items
@@ -192,10 +204,16 @@ fn outline_insert<S: TextStore>(
     ensures put { IfOk result (λ outline. PutInPlace at at pieces.items (S.content text.now.store).cells
         (after outline.steps (S.content text.now.store)).cells outline.steps) }
 {
-    let mut outline = Outline::new(alloc, text, pieces.len())?;
+    let mut outline = Outline::new(rules.alloc, text, pieces.len())?;
     let store = &text.store;
     let (before, behind) = slots_beside(store, at, at, needs_shared(&pieces));
-    outline.insert_pieces(at, pieces, before, &behind, store.len(), keeps)?;
+    let gap = Gap {
+        at,
+        len: store.len(),
+        before,
+        behind,
+    };
+    outline.insert_pieces(pieces, &gap, rules.recording.undo)?;
     Ok(outline)
 }
 
@@ -229,7 +247,7 @@ pub fn plan_insert<S: TextStore>(
     if is_too_long(rules.limits, text.store.len(), &pieces) {
         return Err(EditFault::TextTooLong);
     }
-    let outline = outline_insert(rules.alloc, text, at, pieces, rules.recording.undo)?;
+    let outline = outline_insert(rules, text, at, pieces)?;
     let delta = outline.delta_of_texts(rules.follows, at, at)?;
     Ok(prepare(text, outline, EditKind::Insert, rules.recording, delta)?)
 }

@@ -37,6 +37,16 @@ impl Model for Outline {
     ghost view = { λ d. record { steps = d.steps; anchors = d.anchors.items; actions = d.actions.items } };
 }
 
+/// An insertion of a text of `count` characters before the character at `at`, into a text of `len` characters: each
+/// inserted character gets these slots.
+#[derive(Clone, Copy)]
+pub struct Insertion {
+    pub at: usize,
+    pub count: usize,
+    pub len: usize,
+    pub slots: TagSet,
+}
+
 /// The same text once more.
 pub fn copy_of(alloc: Global, text: &Text) -> Result<Text, AllocError>
     ensures { IfOk result (λ copy. copy ≡ text.now) }
@@ -113,73 +123,57 @@ impl Outline {
         Ok(copy_of(self.alloc, text)?)
     }
 
-    /// Puts a text of so many characters in before the character at an offset, into a text of so many; it isn't noted.
-    pub fn put_in(
-        &mut self,
-        at: usize,
-        text: Text,
-        slots: TagSet,
-        count: usize,
-        len: usize,
-    ) -> Result<(), AllocError>
-        requires stand { All (AnchorsStand len) self.old.anchors }
-        requires fits { len + count < 2 ^ 64 }
+    /// Inserts a text; that isn't noted.
+    pub fn put_in(&mut self, text: Text, insertion: Insertion) -> Result<(), AllocError>
+        requires stand { All (AnchorsStand insertion.len) self.old.anchors }
+        requires fits { insertion.len + insertion.count < 2 ^ 64 }
         ensures { OnOk result (self.new ≡ record self.old {
-          steps = self.old.steps ++ Step.Insert at text slots ∷ [];
-          anchors = map (anchors_moved at count) self.old.anchors;
+          steps = self.old.steps ++ Step.Insert insertion.at text insertion.slots ∷ [];
+          anchors = map (anchors_moved insertion.at insertion.count) self.old.anchors;
         }) }
     {
+        let Insertion {
+            at,
+            count,
+            len,
+            slots,
+        } = insertion;
         self.steps.push(Step::Insert(at, text, slots))?;
         move_anchors(&mut self.anchors, at, count, len);
         Ok(())
     }
 
-    /// Puts a copy of a text in as `put_in` does.
-    pub fn put_copy(
-        &mut self,
-        at: usize,
-        text: &Text,
-        slots: TagSet,
-        count: usize,
-        len: usize,
-    ) -> Result<(), AllocError>
-        requires stand { All (AnchorsStand len) self.old.anchors }
-        requires fits { len + count < 2 ^ 64 }
+    /// Inserts a copy of a text as `put_in` does.
+    pub fn put_copy(&mut self, text: &Text, insertion: Insertion) -> Result<(), AllocError>
+        requires stand { All (AnchorsStand insertion.len) self.old.anchors }
+        requires fits { insertion.len + insertion.count < 2 ^ 64 }
         ensures { OnOk result (self.new ≡ record self.old {
-          steps = self.old.steps ++ Step.Insert at text.now slots ∷ [];
-          anchors = map (anchors_moved at count) self.old.anchors;
+          steps = self.old.steps ++ Step.Insert insertion.at text.now insertion.slots ∷ [];
+          anchors = map (anchors_moved insertion.at insertion.count) self.old.anchors;
         }) }
     {
         let copy = copy_of(self.alloc, text)?;
-        self.put_in(at, copy, slots, count, len)?;
+        self.put_in(copy, insertion)?;
         Ok(())
     }
 
-    /// Puts a text in as `put_in` does, which is an action, of which that text is kept.
-    pub fn insert(
-        &mut self,
-        at: usize,
-        text: Text,
-        kept: Text,
-        slots: TagSet,
-        count: usize,
-        len: usize,
-    ) -> Result<(), AllocError>
-        requires count { count ≡ length text }
-        requires stand { All (AnchorsStand len) self.old.anchors }
-        requires fits { len + count < 2 ^ 64 }
+    /// Inserts a text as `put_in` does, which is an action, of which the other text is kept.
+    pub fn insert(&mut self, text: Text, kept: Text, insertion: Insertion) -> Result<(), AllocError>
+        requires count { insertion.count ≡ length text }
+        requires stand { All (AnchorsStand insertion.len) self.old.anchors }
+        requires fits { insertion.len + insertion.count < 2 ^ 64 }
         ensures { OnOk result (self.new ≡ record {
-          steps = self.old.steps ++ Step.Insert at text slots ∷ [];
-          anchors = map (anchors_moved at count) self.old.anchors;
-          actions = self.old.actions ++ record { inserts = true; at = at; text = kept } ∷ [];
+          steps = self.old.steps ++ Step.Insert insertion.at text insertion.slots ∷ [];
+          anchors = map (anchors_moved insertion.at insertion.count) self.old.anchors;
+          actions = self.old.actions ++ record { inserts = true; at = insertion.at; text = kept } ∷ [];
         }) }
     {
         self.actions.push_back(Action {
             inserts: true,
-            at,
+            at: insertion.at,
             text: kept,
         })?;
-        self.put_in(at, text, slots, count, len)?;
+        self.put_in(text, insertion)?;
         Ok(())
     }
 

@@ -16,48 +16,48 @@ ghost use Rattle.text_model.specs.Splices.{removed};
 ghost use Rattle.text_model.specs.Steps.{Fits, after};
 
 use crate::faults::EditFault;
-use crate::insertions::{is_too_long, needs_shared, slots_beside};
+use crate::insertions::{Gap, is_too_long, needs_shared, slots_beside};
 use crate::outlines::{Outline, kept_text};
 use crate::plans::{Plan, prepare};
 use crate::slotted_texts::SlottedText;
 use crate::spans::Span;
 use crate::texts::{EditRules, EditedText, Target};
-use std::alloc::{AllocError, Global};
+use std::alloc::AllocError;
 use text_cursor::{line_at, line_behind};
 use text_model::{MarkNo, Place, TextStore};
 use undo_stack::EditKind;
 
-/// The edit that takes the characters from one offset to another out, with the text of its action where that is to be
-/// kept, and with room for so many steps.
+/// The edit that deletes the characters of a span, with the text of its action where that is to be kept, and with room
+/// for so many steps.
 fn outline_removal<S: TextStore>(
-    alloc: Global,
+    rules: &EditRules<'_>,
     text: &EditedText<S>,
-    from: usize,
-    to: usize,
+    span: Span,
     room: usize,
-    keeps: bool,
 ) -> Result<Outline, AllocError>
-    requires ordered { from ≤ to }
-    requires within { to < length (S.content text.now.store).cells }
+    requires ordered { span.from ≤ span.to }
+    requires within { span.to < length (S.content text.now.store).cells }
     requires stand { All (AnchorsStand (length (S.content text.now.store).cells)) text.now.anchors.items }
     ensures widgets { IfOk result (λ outline. length outline.anchors ≡ length text.now.anchors.items) }
-    ensures stand { IfOk result (λ outline. All (AnchorsStand (length (S.content text.now.store).cells - (to - from)))
-        outline.anchors) }
+    ensures stand { IfOk result (λ outline. All
+        (AnchorsStand (length (S.content text.now.store).cells - (span.to - span.from))) outline.anchors) }
     ensures fits { IfOk result (λ outline. Fits outline.steps (S.content text.now.store)) }
-    ensures steps { IfOk result (λ outline. outline.steps ≡ removal_steps from to) }
+    ensures steps { IfOk result (λ outline. outline.steps ≡ removal_steps span.from span.to) }
     ensures cells { IfOk result (λ outline. (after outline.steps (S.content text.now.store)).cells
-        ≡ removed from to (S.content text.now.store).cells) }
+        ≡ removed span.from span.to (S.content text.now.store).cells) }
     ensures makes { IfOk result (λ outline. (recording : Recording) (kind : EditKind) (log : Log) →
-        (recording.undo ≡ true → keeps ≡ true) →
+        (recording.undo ≡ true → rules.now.recording.undo ≡ true) →
         outlineed recording kind outline (state_of (S.content text.now.store) text.now.anchors.items log)
-        ≡ removed_span recording kind from to (state_of (S.content text.now.store) text.now.anchors.items log)) }
+        ≡ removed_span recording kind span.from span.to
+        (state_of (S.content text.now.store) text.now.anchors.items log)) }
 {
-    let mut outline = Outline::new(alloc, text, room)?;
+    let mut outline = Outline::new(rules.alloc, text, room)?;
+    let Span { from, to } = span;
     if from == to {
         return Ok(outline);
     }
     let store = &text.store;
-    let taken = kept_text(alloc, store, Span { from, to }, keeps)?;
+    let taken = kept_text(rules.alloc, store, span, rules.recording.undo)?;
     let next = line_behind(store, to) - (to - from);
     outline.remove(from, to, taken, line_at(store, from), next)?;
     Ok(outline)
@@ -77,36 +77,40 @@ fn clipped(place: Option<Place>, from: usize, to: usize, count: usize) -> Option
     })
 }
 
-/// The edit that puts texts in the place of the characters from one offset to another, and clips a mark, with the texts
-/// of its actions where these are to be kept.
+/// The edit that puts texts in the place of the characters of a span, and clips a mark, with the texts of its actions
+/// where these are to be kept.
 fn outline_replace<S: TextStore>(
-    alloc: Global,
+    rules: &EditRules<'_>,
     text: &EditedText<S>,
-    from: usize,
-    to: usize,
+    span: Span,
     pieces: Vec<SlottedText>,
     mark: MarkNo,
-    keeps: bool,
 ) -> Result<Outline, AllocError>
-    requires ordered { from ≤ to }
-    requires within { to < length (S.content text.now.store).cells }
+    requires ordered { span.from ≤ span.to }
+    requires within { span.to < length (S.content text.now.store).cells }
     requires stand { All (AnchorsStand (length (S.content text.now.store).cells)) text.now.anchors.items }
-    requires room { length (S.content text.now.store).cells - (to - from) + total pieces.items < 2 ^ 64 }
+    requires room { length (S.content text.now.store).cells - (span.to - span.from) + total pieces.items < 2 ^ 64 }
     ensures widgets { IfOk result (λ outline. length outline.anchors ≡ length text.now.anchors.items) }
     ensures fits { IfOk result (λ outline. Fits outline.steps (S.content text.now.store)) }
     ensures makes { IfOk result (λ outline. (recording : Recording) (log : Log) →
-        (recording.undo ≡ true → keeps ≡ true) →
+        (recording.undo ≡ true → rules.now.recording.undo ≡ true) →
         outlineed recording EditKind.Replace outline (state_of (S.content text.now.store) text.now.anchors.items log)
-        ≡ replaced_span recording mark.0 from to pieces.items
+        ≡ replaced_span recording mark.0 span.from span.to pieces.items
         (state_of (S.content text.now.store) text.now.anchors.items log)) }
-    ensures put { IfOk result (λ outline. PutInPlace from to pieces.items (S.content text.now.store).cells
+    ensures put { IfOk result (λ outline. PutInPlace span.from span.to pieces.items (S.content text.now.store).cells
         (after outline.steps (S.content text.now.store)).cells outline.steps) }
 {
-    let mut outline = outline_removal(alloc, text, from, to, pieces.len() + 2, keeps)?;
+    let mut outline = outline_removal(rules, text, span, pieces.len() + 2)?;
     let store = &text.store;
-    let len = store.len() - (to - from);
+    let Span { from, to } = span;
     let (before, behind) = slots_beside(store, from, to, needs_shared(&pieces));
-    let end = outline.insert_pieces(from, pieces, before, &behind, len, keeps)?;
+    let gap = Gap {
+        at: from,
+        len: store.len() - (to - from),
+        before,
+        behind,
+    };
+    let end = outline.insert_pieces(pieces, &gap, rules.recording.undo)?;
     match clipped(store.mark_place(mark), from, to, end - from) {
         None => {}
         Some(place) => outline.put_mark(mark, place)?,
@@ -152,8 +156,7 @@ pub fn plan_replace<S: TextStore>(
     if is_too_long(rules.limits, text.store.len() - (to - from), &pieces) {
         return Err(EditFault::TextTooLong);
     }
-    let keeps = rules.recording.undo;
-    let outline = outline_replace(rules.alloc, text, from, to, pieces, target.mark, keeps)?;
+    let outline = outline_replace(rules, text, Span { from, to }, pieces, target.mark)?;
     let delta = outline.delta_of_texts(rules.follows, from, to)?;
     Ok(prepare(text, outline, EditKind::Replace, rules.recording, delta)?)
 }

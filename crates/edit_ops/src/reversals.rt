@@ -21,7 +21,7 @@ ghost use Rattle.text_model.specs.LimitTable.{AreLimits};
 
 use crate::deltas::Delta;
 use crate::orders::put_in_order;
-use crate::outlines::Outline;
+use crate::outlines::{Insertion, Outline};
 use crate::part_hunks::delta_of;
 use crate::plans::{Effects, Notes, Plan, prepare_steps};
 use crate::texts::{EditRules, EditedText};
@@ -86,7 +86,13 @@ impl Outline {
     {
         cursor.seek(at)?;
         let slots = cursor.shared(store);
-        self.put_copy(at, text, slots, count, cursor.len)?;
+        let insertion = Insertion {
+            at,
+            count,
+            len: cursor.len,
+            slots,
+        };
+        self.put_copy(text, insertion)?;
         cursor.put(text, count, slots)?;
         Ok(())
     }

@@ -8,7 +8,7 @@ ghost use Rattle.line_tree.specs.Places.{IsLineAt};
 ghost use Rattle.line_tree.specs.Shape.{lines_in, sum_at};
 ghost use Rattle.std.specs.declared.option.Option.TheVariants.{None, Some};
 
-use crate::fill::{add, shift};
+use crate::fill::{Extra, add, shift};
 use raw_nodes::{NodePtr, NodeStore, Ticks};
 use text_model::WORDS;
 use toggle_sums::Sums;
@@ -50,7 +50,12 @@ pub fn insert_behind<C: Ticks>(
     if store.child(node, 11, ticks).is_some() {
         return false;
     }
-    shift(store, node, slot, added.line, ticks);
+    let extra = Extra {
+        node,
+        at: slot,
+        child: added.line,
+    };
+    shift(store, extra, ticks);
     add(store, node, &added.more);
     let mut at = node;
     for level in 1..height {

@@ -211,24 +211,26 @@ pub fn top<C: Ticks>(store: &mut NodeStore<C>, child: NodePtr, sum: Sums<WORDS>)
     root
 }
 
+/// One more child for a node, which becomes its child number `at`.
+#[derive(Clone, Copy)]
+pub struct Extra {
+    pub node: NodePtr,
+    pub at: usize,
+    pub child: NodePtr,
+}
+
 /// Number `i` of a node's children with one more among them.
-fn pick<C: Ticks>(
-    store: &NodeStore<C>,
-    node: NodePtr,
-    at: usize,
-    extra: NodePtr,
-    i: usize,
-    ticks: &mut C,
-) -> Option<NodePtr>
-    requires row { HasRow (records store.now) node }
-    requires place { at ≤ length (kids (records store.now) node) }
+fn pick<C: Ticks>(store: &NodeStore<C>, extra: Extra, i: usize, ticks: &mut C) -> Option<NodePtr>
+    requires row { HasRow (records store.now) extra.node }
+    requires place { extra.at ≤ length (kids (records store.now) extra.node) }
     requires index { i ≤ 12 }
-    ensures { result ≡ slice_get (insert (kids (records store.now) node) at extra) i }
+    ensures { result ≡ slice_get (insert (kids (records store.now) extra.node) extra.at extra.child) i }
 {
+    let Extra { node, at, child } = extra;
     if i < at {
         store.child(node, i, ticks)
     } else if i == at {
-        Some(extra)
+        Some(child)
     } else {
         store.child(node, i - 1, ticks)
     }
@@ -237,23 +239,22 @@ fn pick<C: Ticks>(
 /// Of a node's children with one more among them, `count` from `from` on.
 fn part<C: Ticks>(
     store: &NodeStore<C>,
-    node: NodePtr,
-    at: usize,
-    extra: NodePtr,
+    extra: Extra,
     from: usize,
     count: usize,
     ticks: &mut C,
 ) -> [Option<NodePtr>; 12]
-    requires row { HasRow (records store.now) node }
-    requires place { at ≤ length (kids (records store.now) node) }
+    requires row { HasRow (records store.now) extra.node }
+    requires place { extra.at ≤ length (kids (records store.now) extra.node) }
     requires count { count ≤ 12 }
     requires end { from + count ≤ 13 }
-    ensures { result ≡ row (take count (drop from (insert (kids (records store.now) node) at extra))) }
+    ensures { result
+        ≡ row (take count (drop from (insert (kids (records store.now) extra.node) extra.at extra.child))) }
 {
     let mut part = [None; 12];
     for i in 0..12 {
         part[i] = if i < count {
-            pick(store, node, at, extra, from + i, ticks)
+            pick(store, extra, from + i, ticks)
         } else {
             None
         };
@@ -262,22 +263,17 @@ fn part<C: Ticks>(
 }
 
 /// Puts one more child among those of a node that has room for it: each from there on goes one slot on.
-pub fn shift<C: Ticks>(
-    store: &mut NodeStore<C>,
-    node: NodePtr,
-    at: usize,
-    extra: NodePtr,
-    ticks: &mut C,
-)
-    requires put { CanPut (records store.old) node at extra }
-    requires few { length (kids (records store.old) node) < 12 }
-    ensures records { records store.new ≡ relinked (records store.old) node 0
-        (row (insert (kids (records store.old) node) at extra)) }
+pub fn shift<C: Ticks>(store: &mut NodeStore<C>, extra: Extra, ticks: &mut C)
+    requires put { CanPut (records store.old) extra.node extra.at extra.child }
+    requires few { length (kids (records store.old) extra.node) < 12 }
+    ensures records { records store.new ≡ relinked (records store.old) extra.node 0
+        (row (insert (kids (records store.old) extra.node) extra.at extra.child)) }
     ensures spares { spares store.new ≡ spares store.old }
     ensures rooms { rooms store.new ≡ rooms store.old }
 {
-    let mut next = Some(extra);
-    let mut slot = at;
+    let node = extra.node;
+    let mut next = Some(extra.child);
+    let mut slot = extra.at;
     while let Some(child) = next {
         next = store.child(node, slot, ticks);
         link(store, node, slot, Some(child));
@@ -298,36 +294,35 @@ fn first_half(at: usize) -> usize
 /// seven get a node of their own.
 pub fn put<C: Ticks>(
     store: &mut NodeStore<C>,
-    node: NodePtr,
-    at: usize,
-    extra: NodePtr,
+    extra: Extra,
     more: &Sums<WORDS>,
     ticks: &mut C,
 ) -> Option<NodePtr>
-    requires put { CanPut (records store.old) node at extra }
-    requires sum { plus (sum_at (records store.old) node) more.now
-        ≡ sum_all (records store.old) (insert (kids (records store.old) node) at extra) }
+    requires put { CanPut (records store.old) extra.node extra.at extra.child }
+    requires sum { plus (sum_at (records store.old) extra.node) more.now
+        ≡ sum_all (records store.old) (insert (kids (records store.old) extra.node) extra.at extra.child) }
     requires spare { 0 < spares store.old }
     requires room { 0 < rooms store.old }
-    ensures puts { Puts (records store.old) (records store.new) node
-        (insert (kids (records store.old) node) at extra) result }
+    ensures puts { Puts (records store.old) (records store.new) extra.node
+        (insert (kids (records store.old) extra.node) extra.at extra.child) result }
     ensures spares { spares store.new + length (option_to_list result) ≡ spares store.old }
     ensures rooms { rooms store.new + length (option_to_list result) ≡ rooms store.old }
 {
+    let node = extra.node;
     if store.child(node, 11, ticks).is_none() {
-        shift(store, node, at, extra, ticks);
+        shift(store, extra, ticks);
         add(store, node, more);
         None
     } else {
         let mut sum = store.sum(node, ticks);
         sum.add(more);
-        let half = first_half(at);
-        let left = part(store, node, at, extra, 0, half, ticks);
-        let right = part(store, node, at, extra, half, 13 - half, ticks);
+        let half = first_half(extra.at);
+        let left = part(store, extra, 0, half, ticks);
+        let right = part(store, extra, half, 13 - half, ticks);
         let last = sum_of(store, &right, ticks);
         lessen_sum(store, &left, &mut sum, &last, ticks);
         let sibling = store.make(None);
-        refill(store, node, at.min(half), &left, &sum);
+        refill(store, node, extra.at.min(half), &left, &sum);
         refill(store, sibling, 0, &right, &last);
         Some(sibling)
     }

@@ -11,7 +11,7 @@ ghost use Rattle.line_tree.specs.Growth.{CanInsert, Inserts, NewLine};
 ghost use Rattle.line_tree.specs.Spreading.{Respreads};
 
 use crate::behind::{Added, insert_behind};
-use crate::fill::{add, put};
+use crate::fill::{Extra, add, put};
 use crate::find::{Found, find_near};
 use crate::spread::spread;
 use raw_nodes::{NodePtr, NodeStore, Ticks};
@@ -99,11 +99,23 @@ pub fn insert_in<C: Ticks>(
         ≡ spares store.old + finite.len (records store.old) }
 {
     if height == 1 {
-        return put(store, node, k, added.line, &added.more, ticks);
+        let extra = Extra {
+            node,
+            at: k,
+            child: added.line,
+        };
+        return put(store, extra, &added.more, ticks);
     }
     let found = lead_to_room(store, node, height, k, added, ticks);
     match insert_in(store, found.child, height - 1, found.rest, added, ticks) {
-        Some(sibling) => put(store, node, found.slot + 1, sibling, &added.more, ticks),
+        Some(sibling) => {
+            let extra = Extra {
+                node,
+                at: found.slot + 1,
+                child: sibling,
+            };
+            put(store, extra, &added.more, ticks)
+        }
         None => {
             add(store, node, &added.more);
             None

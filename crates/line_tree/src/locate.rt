@@ -8,7 +8,7 @@ ghost use Rattle.line_tree.specs.Locating.{IsPlaceAt};
 ghost use Rattle.line_tree.specs.Places.{IsLineAt};
 
 use crate::aims::LinesBefore;
-use crate::search::descend;
+use crate::search::{Sought, descend};
 use raw_nodes::{NodePtr, NodeStore, Ticks};
 
 /// A line, by its name and its number, and a column of it.
@@ -35,7 +35,12 @@ pub fn locate<C: Ticks>(
     ensures ticks { C.count ticks.new ≤ C.count ticks.old + 24 * height }
 {
     let mut before = LinesBefore { lines: 0 };
-    let arrived = descend(store, root, height, None, offset, &mut before, ticks);
+    let sought = Sought {
+        node: root,
+        size: None,
+        k: offset,
+    };
+    let arrived = descend(store, height, sought, &mut before, ticks);
     Located {
         name: arrived.name,
         line: before.lines,

@@ -19,6 +19,14 @@ pub struct Reached<S> {
     pub rest: usize,
 }
 
+/// A place that is looked for: place `k` below a node, whose size may be known.
+#[derive(Clone, Copy)]
+pub struct Sought<S> {
+    pub node: NodePtr,
+    pub size: Option<S>,
+    pub k: usize,
+}
+
 /// The child in which place `k` of a node is, from the first child on.
 #[inline(always)]
 pub fn search<C: Ticks, A: Aim>(
@@ -96,25 +104,24 @@ pub fn search_back<C: Ticks, A: AimBack>(
     unreachable!()
 }
 
-/// The same from the end of the node that is nearer to the place, where it is known what the node has.
+/// The same from the end of the node that is nearer to the place, where the node's size is known.
 #[inline(always)]
 fn search_near<C: Ticks, A: AimBack>(
     store: &NodeStore<C>,
-    node: NodePtr,
-    size: Option<A::Size>,
-    k: usize,
+    sought: Sought<A::Size>,
     aim: &mut A,
     ticks: &mut C,
 ) -> Reached<A::Size>
-    requires row { HasRow (records store.now) node }
-    requires within { k < A.wide (sum_below (records store.now) node) }
-    requires fits { A.fits aim.old (sum_below (records store.now) node) }
-    requires whole { sum_at (records store.now) node ≡ sum_below (records store.now) node }
-    requires size { IfSome size (λ s. s ≡ A.sized (sum_at (records store.now) node)) }
-    ensures reaches { Reaches A.sized A.wide (records store.now) node k result }
-    ensures aim { aim.new ≡ A.behind aim.old (sum_before (records store.now) node result.slot) }
+    requires row { HasRow (records store.now) sought.node }
+    requires within { sought.k < A.wide (sum_below (records store.now) sought.node) }
+    requires fits { A.fits aim.old (sum_below (records store.now) sought.node) }
+    requires whole { sum_at (records store.now) sought.node ≡ sum_below (records store.now) sought.node }
+    requires size { IfSome sought.size (λ s. s ≡ A.sized (sum_at (records store.now) sought.node)) }
+    ensures reaches { Reaches A.sized A.wide (records store.now) sought.node sought.k result }
+    ensures aim { aim.new ≡ A.behind aim.old (sum_before (records store.now) sought.node result.slot) }
     ensures ticks { C.count ticks.new ≤ C.count ticks.old + (A.steps + 12 * (A.steps + 2)) }
 {
+    let Sought { node, size, k } = sought;
     if let Some(size) = size {
         let width = A::width(&size);
         if k >= width / 2 {
@@ -132,34 +139,36 @@ pub struct Arrived {
     pub rest: usize,
 }
 
-/// The line in which place `k` below a root is. What the root has need not be known.
+/// The line in which the place that is looked for is, below a root of this height.
 #[inline(always)]
 pub fn descend<C: Ticks, A: AimBack>(
     store: &NodeStore<C>,
-    root: NodePtr,
     height: usize,
-    size: Option<A::Size>,
-    k: usize,
+    sought: Sought<A::Size>,
     aim: &mut A,
     ticks: &mut C,
 ) -> Arrived
-    requires tree { IsTree (records store.now) height root }
-    requires size { IfSome size (λ s. s ≡ A.sized (sum_at (records store.now) root)) }
-    requires within { k < A.wide (total (lines_in (records store.now) height root)) }
-    requires fits { A.fits aim.old (total (lines_in (records store.now) height root)) }
-    ensures arrives { Arrives A.wide A.behind (lines_in (records store.now) height root) k aim.old aim.new result }
+    requires tree { IsTree (records store.now) height sought.node }
+    requires size { IfSome sought.size (λ s. s ≡ A.sized (sum_at (records store.now) sought.node)) }
+    requires within { sought.k < A.wide (total (lines_in (records store.now) height sought.node)) }
+    requires fits { A.fits aim.old (total (lines_in (records store.now) height sought.node)) }
+    ensures arrives { Arrives A.wide A.behind (lines_in (records store.now) height sought.node) sought.k aim.old
+        aim.new result }
     ensures ticks { C.count ticks.new ≤ C.count ticks.old + (A.steps + 12 * (A.steps + 2)) * height }
 {
-    let mut at = root;
-    let mut size = size;
-    let mut rest = k;
+    let mut here = sought;
     let mut level = height;
     while level > 0 {
-        let reached = search_near(store, at, size, rest, aim, ticks);
-        at = reached.child;
-        size = Some(reached.size);
-        rest = reached.rest;
+        let reached = search_near(store, here, aim, ticks);
+        here = Sought {
+            node: reached.child,
+            size: Some(reached.size),
+            k: reached.rest,
+        };
         level -= 1;
     }
-    Arrived { name: at, rest }
+    Arrived {
+        name: here.node,
+        rest: here.k,
+    }
 }

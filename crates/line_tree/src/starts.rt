@@ -9,7 +9,7 @@ ghost use Rattle.line_tree.specs.Shape.{IsTree, lines_at, lines_in};
 ghost use Rattle.line_tree.specs.Trees.{total};
 
 use crate::aims::{CharactersBefore, SlotsBefore};
-use crate::search::descend;
+use crate::search::{Sought, descend};
 use raw_nodes::{NodePtr, NodeStore, Ticks};
 use text_model::TagSet;
 
@@ -37,7 +37,12 @@ pub fn place<C: Ticks>(
     ensures start { result.start ≡ (total (take k (lines_in (records store.now) height root))).characters }
 {
     let mut before = CharactersBefore { characters: 0 };
-    let arrived = descend(store, root, height, Some(size), k, &mut before, ticks);
+    let sought = Sought {
+        node: root,
+        size: Some(size),
+        k,
+    };
+    let arrived = descend(store, height, sought, &mut before, ticks);
     Placed {
         name: arrived.name,
         start: before.characters,
@@ -93,6 +98,11 @@ pub fn odd_slots<C: Ticks>(
         store.turn_odd_slots(root, &mut before.slots, ticks);
         return before.slots;
     }
-    descend(store, root, height, Some(lines), k, &mut before, ticks);
+    let sought = Sought {
+        node: root,
+        size: Some(lines),
+        k,
+    };
+    descend(store, height, sought, &mut before, ticks);
     before.slots
 }

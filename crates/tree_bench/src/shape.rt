@@ -57,16 +57,17 @@ impl Size {
     }
 }
 
-/// A walk over all nodes, from left to right.
+/// A walk over all nodes, from left to right, beside a plain list of how long each line is to be.
 #[derive(Clone, Copy)]
-struct Walk {
+struct Walk<'a> {
+    plain: &'a [usize],
     /// How many lines it came by.
     lines: usize,
     /// How much wasn't as it is to be.
     faults: usize,
 }
 
-impl Walk {
+impl Walk<'_> {
     fn expect(&mut self, is_right: bool) {
         self.faults = self.faults.wrapping_add(!is_right as usize);
     }
@@ -105,10 +106,11 @@ fn child_in(
     store.child(node, slot, ticks)
 }
 
-/// A line, which is to be the next one of a list.
-fn walk_line(store: &NodeStore<Counter>, name: NodePtr, plain: &[usize], walk: &mut Walk) -> Size
+/// A line, which is to be the next one of the list.
+fn walk_line(store: &NodeStore<Counter>, name: NodePtr, walk: &mut Walk<'_>) -> Size
     requires { IsName store.now name }
 {
+    let plain = walk.plain;
     let next = walk.lines;
     walk.lines = next.wrapping_add(1);
     match store.line(name) {
@@ -129,21 +131,20 @@ fn walk_below(
     node: NodePtr,
     height: usize,
     least: usize,
-    plain: &[usize],
-    walk: &mut Walk,
+    walk: &mut Walk<'_>,
     ticks: &mut Counter,
 ) -> Size
     requires { IsTree (records store.now) height node }
 {
     if height == 0 {
-        return walk_line(store, node, plain, walk);
+        return walk_line(store, node, walk);
     }
     let count = store.children(node);
     walk.expect(store.line(node).is_none() && least <= count && count <= 12);
     let mut size = Size::zero();
     for slot in 0..12 {
         if let Some(child) = child_in(store, node, height, slot, ticks) {
-            let below = walk_below(store, child, height - 1, 6, plain, walk, ticks);
+            let below = walk_below(store, child, height - 1, 6, walk, ticks);
             walk.expect(slot < count && is_linked(store, node, slot, child, ticks));
             size = size.plus(&below);
         } else {
@@ -160,11 +161,12 @@ pub fn count_faults(tree: &LineTree<Counter>, plain: &[usize], ticks: &mut Count
     let height = tree.height();
     let least = if height == 1 { 1 } else { 2 };
     let mut walk = Walk {
+        plain,
         lines: 0,
         faults: 0,
     };
     walk.expect(store.parent(root, ticks).is_none());
-    walk_below(store, root, height, least, plain, &mut walk, ticks);
+    walk_below(store, root, height, least, &mut walk, ticks);
     let is_whole = walk.lines == plain.len() && tree.len() == plain.len();
     walk.expect(is_whole);
     walk.faults

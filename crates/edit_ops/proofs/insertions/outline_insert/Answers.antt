@@ -12,7 +12,7 @@ returns-clause-makes g c =
     c.needs_shared.ensures ∙ ap needs_shared c.deref.ensures.value ∙ some in
     let before = c.slots_beside-before.result.0 in
     let behind = c.slots_beside-before.result.1 in
-    put-in c.args.keeps c.in_ok-outline.outline c.insert_pieces.new.self content c.args.text.now.anchors.items
+    put-in c.args.rules.now.recording.undo c.in_ok-outline.outline c.insert_pieces.new.self content c.args.text.now.anchors.items
     (set.intersection before behind) behind c.len-2.result c.args.at c.args.pieces.items
     c.in_ok-outline.ensures (record {
       counted = sym c.len-2.ensures;

@@ -6,7 +6,7 @@ pub overflow_sub-next-2 : goal.overflow_sub-next-2
 overflow_sub-next-2 g c =
     let cells = (g.S.TextStore.content c.args.text.now.store).cells in
     let long = length-characters cells in
-    let drawn = next_line-drawn (characters cells) c.args.from c.args.to c.requires.ordered
+    let drawn = next_line-drawn (characters cells) c.args.span.from c.args.span.to c.requires.ordered
     (omega (arith, long, c.requires.within)) in
     omega (arith, drawn.0, c.line_behind.ensures)
 
@@ -14,23 +14,23 @@ pub returns-clause-stand : goal.returns-clause-stand
 returns-clause-stand g c =
     let cells = (g.S.TextStore.content c.args.text.now.store).cells in
     let long = length-characters cells in
-    let drawn = next_line-drawn (characters cells) c.args.from c.args.to c.requires.ordered
+    let drawn = next_line-drawn (characters cells) c.args.span.from c.args.span.to c.requires.ordered
     (omega (arith, long, c.requires.within)) in
-    stand-out c.in_ok-taken.taken c.line_at.result (c.line_behind.result - (c.args.to - c.args.from)) c.args.from
-    c.args.to c.in_ok-outline.ensures c.in_ok-remove.ensures (characters cells) (length cells) c.requires.stand long
+    stand-out c.in_ok-taken.taken c.line_at.result (c.line_behind.result - (c.args.span.to - c.args.span.from)) c.args.span.from
+    c.args.span.to c.in_ok-outline.ensures c.in_ok-remove.ensures (characters cells) (length cells) c.requires.stand long
     c.requires.ordered (omega (arith, c.requires.within)) c.line_at.ensures
-    (ap (λ n. n - (c.args.to - c.args.from)) c.line_behind.ensures ∙ drawn.1)
+    (ap (λ n. n - (c.args.span.to - c.args.span.from)) c.line_behind.ensures ∙ drawn.1)
 
 pub returns-clause-makes : goal.returns-clause-makes
 returns-clause-makes g c =
     let content = g.S.TextStore.content c.args.text.now.store in
     let long = length-characters content.cells in
-    let drawn = next_line-drawn (characters content.cells) c.args.from c.args.to c.requires.ordered
+    let drawn = next_line-drawn (characters content.cells) c.args.span.from c.args.span.to c.requires.ordered
     (omega (arith, long, c.requires.within)) in
-    taken-out c.in_ok-taken.taken c.line_at.result (c.line_behind.result - (c.args.to - c.args.from)) c.args.from
-    c.args.to c.in_ok-outline.ensures c.in_ok-remove.ensures c.args.keeps content
+    taken-out c.in_ok-taken.taken c.line_at.result (c.line_behind.result - (c.args.span.to - c.args.span.from)) c.args.span.from
+    c.args.span.to c.in_ok-outline.ensures c.in_ok-remove.ensures c.args.rules.now.recording.undo content
     (omega (arith, c.requires.ordered, c.if-from-to.false)) c.in_ok-taken.ensures c.line_at.ensures
-    (ap (λ n. n - (c.args.to - c.args.from)) c.line_behind.ensures ∙ drawn.1)
+    (ap (λ n. n - (c.args.span.to - c.args.span.from)) c.line_behind.ensures ∙ drawn.1)
 
 pub returns-then-from-to-clause-stand : goal.returns-then-from-to-clause-stand
 returns-then-from-to-clause-stand g c =

@@ -10,24 +10,24 @@ use Rattle.edit_ops.proofs.replacements.outline_replace.Goals as goal
 
 between : (g : _) (c : Joined-clipped g) → IsBetween (needs_shared c.args.pieces.items)
     (set.intersection c.slots_beside-before.result.0 c.slots_beside-before.result.1) c.slots_beside-before.result.1
-    (c.len-2.result - (c.args.to - c.args.from)) c.args.from
+    (c.len-2.result - (c.args.span.to - c.args.span.from)) c.args.span.from
     (after c.in_ok-outline.outline.steps (g.S.TextStore.content c.args.text.now.store)).cells
 between g c =
     let on : needs_shared c.args.pieces.items ≡ true → c.needs_shared.result ≡ true = λ some.
     c.needs_shared.ensures ∙ ap needs_shared c.deref.ensures.value ∙ some in
     between-removed (needs_shared c.args.pieces.items) c.slots_beside-before.result.0 c.slots_beside-before.result.1
-    (c.len-2.result - (c.args.to - c.args.from)) c.args.from c.args.to
+    (c.len-2.result - (c.args.span.to - c.args.span.from)) c.args.span.from c.args.span.to
     (g.S.TextStore.content c.args.text.now.store).cells _ c.in_ok-outline.ensures.cells c.requires.ordered
-    c.requires.within (ap (λ n. n - (c.args.to - c.args.from)) c.len-2.ensures)
+    c.requires.within (ap (λ n. n - (c.args.span.to - c.args.span.from)) c.len-2.ensures)
     (λ some. c.slots_beside-before.ensures.before (on some)) (λ some. c.slots_beside-before.ensures.behind (on some))
 
 clip : (g : _) (c : Joined-clipped g) → c.clipped.result
-    ≡ option_and_then (clipped c.args.from c.args.to (total c.args.pieces.items))
+    ≡ option_and_then (clipped c.args.span.from c.args.span.to (total c.args.pieces.items))
     (finite.get (g.S.TextStore.content c.args.text.now.store).marks c.args.mark.0)
 clip g c =
-    c.clipped.ensures ∙ ap (λ n. option_and_then (clipped c.args.from c.args.to n) c.mark_place.result)
-    (let is : c.in_ok-end.end - c.args.from ≡ total c.args.pieces.items = omega (arith, c.in_ok-end.ensures.end) in is)
-    ∙ ap (option_and_then (clipped c.args.from c.args.to (total c.args.pieces.items))) c.mark_place.ensures.value
+    c.clipped.ensures ∙ ap (λ n. option_and_then (clipped c.args.span.from c.args.span.to n) c.mark_place.result)
+    (let is : c.in_ok-end.end - c.args.span.from ≡ total c.args.pieces.items = omega (arith, c.in_ok-end.ensures.end) in is)
+    ∙ ap (option_and_then (clipped c.args.span.from c.args.span.to (total c.args.pieces.items))) c.mark_place.ensures.value
 
 pub returns-clause-fits : goal.returns-clause-fits
 returns-clause-fits g c =
@@ -38,7 +38,7 @@ returns-clause-fits g c =
     (λ on. absurd (cc)) c.in_ok-outline.ensures.fits (between g here) in
     elim c.match-clipped.branch [
       | in-Some+in_ok-put_mark-in-Some w ↦
-          let near = found-within c.args.from c.args.to (total c.args.pieces.items)
+          let near = found-within c.args.span.from c.args.span.to (total c.args.pieces.items)
           (finite.get content.marks c.args.mark.0) w.in-Some.place (sym (clip g here) ∙ w.in-Some.is) in
           let long = made.1 in
           let len = c.len-2.ensures in
@@ -55,7 +55,7 @@ returns-clause-makes g c = λ recording log keeping.
     let made = c.in_ok-end.ensures.makes recording Replace state keeping c.in_ok-outline.ensures.fits
     (between g here) in
     let finish = replaced-is recording c.in_ok-outline.outline c.insert_pieces.new.self c.match-clipped.outline state
-    c.args.mark c.args.from c.args.to c.args.pieces.items c.clipped.result
+    c.args.mark c.args.span.from c.args.span.to c.args.pieces.items c.clipped.result
     made.2 (c.in_ok-outline.ensures.makes recording Replace log keeping) (clip g here) in
     elim c.match-clipped.branch [
       | in-Some+in_ok-put_mark-in-Some w ↦ finish

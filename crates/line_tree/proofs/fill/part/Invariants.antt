@@ -5,5 +5,6 @@ abbrev pub invariant-loop-i : goal.invariant-loop-i
 invariant-loop-i g l = record {
   long : length l.part ≡ 12;
   items : (k : ℕ) → k < l.i → get_or l.part k None
-      ≡ slice_get (take l.count (drop l.from (insert (kids (records l.store) l.node) l.at l.extra))) k;
+      ≡ slice_get (take l.count
+      (drop l.from (insert (kids (records l.store) l.extra.node) l.extra.at l.extra.child))) k;
 }

@@ -25,35 +25,35 @@ summed : (m : Records) (p : NodePtr) (s more all : Count) → HasRow m p → IfS
 summed m p s more all has says is = ap (λ x. plus x more) (sum_is m p s (named-row m p has) says) ∙ is
 
 pub shift-requires-clause-few : goal.shift-requires-clause-few
-shift-requires-clause-few g c = has-room (records c.args.store.now) c.args.node c.requires.put.row c.child.result
+shift-requires-clause-few g c = has-room (records c.args.store.now) c.args.extra.node c.requires.put.row c.child.result
     c.child.ensures.value (c.is_none.ensures ∙ ap not c.if-is_none.true)
 
 pub add-requires : goal.add-requires
 add-requires g c = let m = records c.args.store.now in
-    let few = has-room m c.args.node c.requires.put.row c.child.result c.child.ensures.value
+    let few = has-room m c.args.extra.node c.requires.put.row c.child.result c.child.ensures.value
     (c.is_none.ensures ∙ ap not c.if-is_none.true) in
     record {
-      row = shifted-row m c.args.node c.args.at c.args.extra c.requires.put few (records c.shift.new.store)
-          c.shift.ensures.records;
-      sum = shifted-sum m c.args.node c.args.at c.args.extra c.requires.put few (records c.shift.new.store)
-          c.shift.ensures.records c.args.more.now c.requires.sum;
-      fits = shifted-fits m c.args.node c.args.at c.args.extra c.requires.put few (records c.shift.new.store)
-          c.shift.ensures.records;
+      row = shifted-row m c.args.extra.node c.args.extra.at c.args.extra.child c.requires.put few
+          (records c.shift.new.store) c.shift.ensures.records;
+      sum = shifted-sum m c.args.extra.node c.args.extra.at c.args.extra.child c.requires.put few
+          (records c.shift.new.store) c.shift.ensures.records c.args.more.now c.requires.sum;
+      fits = shifted-fits m c.args.extra.node c.args.extra.at c.args.extra.child c.requires.put few
+          (records c.shift.new.store) c.shift.ensures.records;
     }
 
 pub returns-then-is_none-clause-puts : goal.returns-then-is_none-clause-puts
 returns-then-is_none-clause-puts g c = let m = records c.args.store.now in
-    let few = has-room m c.args.node c.requires.put.row c.child.result c.child.ensures.value (c.is_none.ensures
+    let few = has-room m c.args.extra.node c.requires.put.row c.child.result c.child.ensures.value (c.is_none.ensures
     ∙ ap not c.if-is_none.true) in
-    shifted-fills m c.args.node c.args.at c.args.extra c.requires.put few (records c.shift.new.store)
+    shifted-fills m c.args.extra.node c.args.extra.at c.args.extra.child c.requires.put few (records c.shift.new.store)
     c.shift.ensures.records (records c.add.new.store) c.add.ensures.records
 
 pub sum-sum-requires : goal.sum-sum-requires
-sum-sum-requires g c = named-row (records c.args.store.now) c.args.node c.requires.put.row
+sum-sum-requires g c = named-row (records c.args.store.now) c.args.extra.node c.requires.put.row
 
 pub add-requires-else-is_none : goal.add-requires-else-is_none
-add-requires-else-is_none g c = let m = records c.args.store.now in let p = c.args.node in
-    let all = insert (kids m p) c.args.at c.args.extra in
+add-requires-else-is_none g c = let m = records c.args.store.now in let p = c.args.extra.node in
+    let all = insert (kids m p) c.args.extra.at c.args.extra.child in
     let now = summed m p c.sum-sum.result c.args.more.now (sum_all m all) c.requires.put.row c.sum-sum.ensures.value
     c.requires.sum in
     (omega arith, fits-both c.sum-sum.result c.args.more.now (subst FitsSum (sym now) c.requires.put.fits))
@@ -67,61 +67,65 @@ named-part m p at x can cs inside os is i d there = named-all m p at x can d
 
 pub sum_of-last-requires : goal.sum_of-last-requires
 sum_of-last-requires g c = let m = records c.args.store.now in let half = c.first_half-half.result in
-    let p = c.args.node in let all = insert (kids m p) c.args.at c.args.extra in
-    let more = length-insert (kids m p) c.args.at c.args.extra c.requires.put.place in
+    let p = c.args.extra.node in let all = insert (kids m p) c.args.extra.at c.args.extra.child in
+    let more = length-insert (kids m p) c.args.extra.at c.args.extra.child c.requires.put.place in
     let few : length all ≤ 13 = omega (arith, c.requires.put.row.few) in
     let is = c.part-right.ensures ∙ last all half c.first_half-half.ensures.high few in
     record {
-      nodes = named-part m p c.args.at c.args.extra c.requires.put (drop half all) (λ d a. among-drop d half all a)
-          c.part-right.result is;
-      fits = subst (λ os. FitsSum (sums m os)) (sym is) (last-fits m p c.args.at c.args.extra c.requires.put half);
+      nodes = named-part m p c.args.extra.at c.args.extra.child c.requires.put (drop half all)
+          (λ d a. among-drop d half all a) c.part-right.result is;
+      fits = subst (λ os. FitsSum (sums m os)) (sym is)
+          (last-fits m p c.args.extra.at c.args.extra.child c.requires.put half);
     }
 
 pub lessen_sum-requires : goal.lessen_sum-requires
 lessen_sum-requires g c = let m = records c.args.store.now in let half = c.first_half-half.result in
-    let p = c.args.node in let all = insert (kids m p) c.args.at c.args.extra in
-    let more = length-insert (kids m p) c.args.at c.args.extra c.requires.put.place in
+    let p = c.args.extra.node in let all = insert (kids m p) c.args.extra.at c.args.extra.child in
+    let more = length-insert (kids m p) c.args.extra.at c.args.extra.child c.requires.put.place in
     let few : length all ≤ 13 = omega (arith, c.requires.put.row.few) in
-    let sum = c.add-else-is_none.ensures ∙ summed m p c.sum-sum.result c.args.more.now (sum_all m all) c.requires.put.row
-    c.sum-sum.ensures.value c.requires.sum in
+    let sum = c.add-else-is_none.ensures ∙ summed m p c.sum-sum.result c.args.more.now (sum_all m all)
+    c.requires.put.row c.sum-sum.ensures.value c.requires.sum in
     let one = ap (sums m) c.part-left.ensures ∙ sums-row m (take half all) in
     let two = c.sum_of-last.ensures ∙ ap (sums m) (c.part-right.ensures
     ∙ last all half c.first_half-half.ensures.high few) ∙ sums-row m (drop half all) in
     record {
-      nodes = named-part m p c.args.at c.args.extra c.requires.put (take half all) (λ d a. among-take d half all a)
-          c.part-left.result c.part-left.ensures;
-      sum = (λ i. plus (one i) (two i)) ∙ halves-sum m p c.args.at c.args.extra c.requires.put half ∙ sym sum;
+      nodes = named-part m p c.args.extra.at c.args.extra.child c.requires.put (take half all)
+          (λ d a. among-take d half all a) c.part-left.result c.part-left.ensures;
+      sum = (λ i. plus (one i) (two i)) ∙ halves-sum m p c.args.extra.at c.args.extra.child c.requires.put half
+          ∙ sym sum;
       fits = subst (λ os. FitsSum (sums m os)) (sym c.part-left.ensures)
-          (first-fits m p c.args.at c.args.extra c.requires.put half);
+          (first-fits m p c.args.extra.at c.args.extra.child c.requires.put half);
     }
 
 pub refill-requires : goal.refill-requires
 refill-requires g c = let m = records c.args.store.now in let half = c.first_half-half.result in
-    let p = c.args.node in let all = insert (kids m p) c.args.at c.args.extra in
+    let p = c.args.extra.node in let all = insert (kids m p) c.args.extra.at c.args.extra.child in
     record {
       fill = (
         take half all,
         c.part-left.ensures,
         subst (λ n. CanFill n p (take half all)) (sym c.make-sibling.ensures.records)
-            (fill-left m p c.args.at c.args.extra c.requires.put c.make-sibling.result c.make-sibling.ensures.fresh half
-            (omega (arith, c.first_half-half.ensures.high))),
+            (fill-left m p c.args.extra.at c.args.extra.child c.requires.put c.make-sibling.result
+            c.make-sibling.ensures.fresh half (omega (arith, c.first_half-half.ensures.high))),
       );
       from = omega (arith, c.min.ensures);
       kept = subst (Stay (records c.make-sibling.new.self) p c.min.result) (sym c.part-left.ensures)
           (subst (λ n. Stay n p c.min.result (row (take half all))) (sym c.make-sibling.ensures.records)
-          (kept-left m p c.args.at c.args.extra c.requires.put c.make-sibling.result c.make-sibling.ensures.fresh half
-          c.min.result (omega (arith, c.min.ensures)) (omega (arith, c.min.ensures))));
+          (kept-left m p c.args.extra.at c.args.extra.child c.requires.put c.make-sibling.result
+          c.make-sibling.ensures.fresh half c.min.result (omega (arith, c.min.ensures))
+          (omega (arith, c.min.ensures))));
       sum = c.lessen_sum.ensures ∙ ap (sums m) c.part-left.ensures
           ∙ sym (ap (λ n. sums n c.part-left.result) c.make-sibling.ensures.records
           ∙ ap (sums (finite.insert m c.make-sibling.result (blank None))) c.part-left.ensures
-          ∙ left-sums m p c.args.at c.args.extra c.requires.put c.make-sibling.result c.make-sibling.ensures.fresh
-          half);
+          ∙ left-sums m p c.args.extra.at c.args.extra.child c.requires.put c.make-sibling.result
+          c.make-sibling.ensures.fresh half);
     }
 
 pub refill-requires-else-is_none : goal.refill-requires-else-is_none
 refill-requires-else-is_none g c = let m = records c.args.store.now in let half = c.first_half-half.result in
-    let p = c.args.node in let all = insert (kids m p) c.args.at c.args.extra in let s = c.make-sibling.result in
-    let more = length-insert (kids m p) c.args.at c.args.extra c.requires.put.place in
+    let p = c.args.extra.node in let all = insert (kids m p) c.args.extra.at c.args.extra.child in
+    let s = c.make-sibling.result in
+    let more = length-insert (kids m p) c.args.extra.at c.args.extra.child c.requires.put.place in
     let few : length all ≤ 13 = omega (arith, c.requires.put.row.few) in
     let now = c.refill.ensures.records
     ∙ ap (λ n. refilled n p c.part-left.result) c.make-sibling.ensures.records
@@ -131,7 +135,7 @@ refill-requires-else-is_none g c = let m = records c.args.store.now in let half 
         drop half all,
         c.part-right.ensures ∙ last all half c.first_half-half.ensures.high few,
         subst (λ n. CanFill n s (drop half all)) (sym now)
-            (fill-right m p c.args.at c.args.extra c.requires.put s c.make-sibling.ensures.fresh half
+            (fill-right m p c.args.extra.at c.args.extra.child c.requires.put s c.make-sibling.ensures.fresh half
             (omega (arith, few, c.first_half-half.ensures.low))),
       );
       from = omega arith;
@@ -141,15 +145,16 @@ refill-requires-else-is_none g c = let m = records c.args.store.now in let half 
           ∙ sym (ap (λ n. sums n c.part-right.result) now
           ∙ ap (sums (refilled (finite.insert m s (blank None)) p (row (take half all)))) (c.part-right.ensures
           ∙ last all half c.first_half-half.ensures.high few)
-          ∙ right-sums m p c.args.at c.args.extra c.requires.put s c.make-sibling.ensures.fresh half);
+          ∙ right-sums m p c.args.extra.at c.args.extra.child c.requires.put s c.make-sibling.ensures.fresh half);
     }
 
 pub returns-else-is_none-clause-puts : goal.returns-else-is_none-clause-puts
 returns-else-is_none-clause-puts g c = let m = records c.args.store.now in let half = c.first_half-half.result in
-    let p = c.args.node in let all = insert (kids m p) c.args.at c.args.extra in let s = c.make-sibling.result in
+    let p = c.args.extra.node in let all = insert (kids m p) c.args.extra.at c.args.extra.child in
+    let s = c.make-sibling.result in
     let full = has-none m p c.requires.put.row c.child.result c.child.ensures.value (c.is_none.ensures
     ∙ ap not c.if-is_none.false) in
-    let more = length-insert (kids m p) c.args.at c.args.extra c.requires.put.place in
+    let more = length-insert (kids m p) c.args.extra.at c.args.extra.child c.requires.put.place in
     let few : length all ≤ 13 = omega (arith, c.requires.put.row.few) in
     let left = c.refill.ensures.records
     ∙ ap (λ x. refilled x p c.part-left.result) c.make-sibling.ensures.records

@@ -75,8 +75,8 @@ insert_in-requires g t c κs inside = let m = records c.lead_to_room-found.new.s
       (inside, (omega arith, (can-child m n p k x can f leads, (more, (omega arith, omega arith))))),
     )
 
-pub overflow_add-found : goal.overflow_add-found
-overflow_add-found g t c = let m = records c.lead_to_room-found.new.store in
+pub overflow_add-extra : goal.overflow_add-extra
+overflow_add-extra g t c = let m = records c.lead_to_room-found.new.store in
     let p = c.args.node in let k = c.args.k in let x = c.args.added.now.line in let h = c.args.height in
     let n = h - 1 in let f = c.lead_to_room-found.result in let leads = c.lead_to_room-found.ensures.leads in
     let can = above m h p k x c.lead_to_room-found.ensures.insert c.requires.node in

@@ -4,10 +4,10 @@ use Rattle.line_tree.proofs.search.descend.Given as goal
 
 abbrev pub invariant-loop-level : goal.invariant-loop-level
 invariant-loop-level g l = record {
-  tree : IsTree (records l.store) l.level l.at;
-  size : IfSome l.size (λ s. s ≡ g.A.Aim.sized (sum_at (records l.store) l.at));
-  passes : Passes g.A.Aim.wide g.A.Aim.behind (lines_in (records l.store) l.fn.height l.fn.root)
-      (lines_in (records l.store) l.level l.at) l.k l.rest l.fn.aim l.aim;
+  tree : IsTree (records l.store) l.level l.here.node;
+  size : IfSome l.here.size (λ s. s ≡ g.A.Aim.sized (sum_at (records l.store) l.here.node));
+  passes : Passes g.A.Aim.wide g.A.Aim.behind (lines_in (records l.store) l.fn.height l.fn.sought.node)
+      (lines_in (records l.store) l.level l.here.node) l.fn.sought.k l.here.k l.fn.aim l.aim;
   low : l.level ≤ l.fn.height;
   ticks : g.C.Ticks.count l.ticks
       ≤ g.C.Ticks.count l.fn.ticks + (g.A.Aim.steps + 12 * (g.A.Aim.steps + 2)) * (l.fn.height - l.level);

@@ -6,8 +6,8 @@ use Rattle.edit_ops.proofs.outlines.Outline.insert_pieces.Goals as goal
 
 pub loop-piece-init : goal.loop-piece-init
 loop-piece-init c =
-    let around = set.intersection c.args.before c.args.behind.now in
-    inserting-first c.args.keeps c.args.self.now c.args.at c.args.len around c.args.behind.now c.args.pieces.items _
+    let around = set.intersection c.args.gap.now.before c.args.gap.now.behind in
+    inserting-first c.args.keeps c.args.self.now c.args.gap.now.at c.args.gap.now.len around c.args.gap.now.behind c.args.pieces.items _
     c.into_iter-piece-iterator.ensures.into_iter_gives.0 c.requires.within c.requires.stand c.requires.fits
 
 pub insert-requires-clause-fits : goal.insert-requires-clause-fits
