@@ -3,10 +3,9 @@ use Rattle.command_effects.proofs.Common.{map, ◌≡◌, ℕ, zero, suc, Bool, 
 use Rattle.command_effects.proofs.Common.{◌++◌, refl, sym, ap, ap₂, ◌∙◌, true≢false, bytes_eq, if◌then◌else◌, both_ways}
 use Rattle.command_effects.proofs.Common.{list_any-append, bytes_eq-Decides, without, deleted, Tag, is_named, names_of}
 use Rattle.command_effects.proofs.Common.{sel, Mark, is_left, marks_left, stays, tags_left, is_among, is_same, ◌||◌}
-use Rattle.command_effects.proofs.Common.{Some, filter, slice_get}
+use Rattle.command_effects.proofs.Common.{Some, filter, slice_get, AreApart}
 use Rattle.std.proofs.lemmas.Bool.{false_from_ne_true, or_right}
-use mathlib.Core.Bool.{and-true, or-false}
-use Rattle.name_list.specs.Names.{AreApart}
+use mathlib.Core.Bool.{or-false}
 use Rattle.mark_table.specs.SharedMarks.{is_named as mark_is_named, names_of as mark_names_of}
 
 -- ---- lists of distinct elements
@@ -75,47 +74,52 @@ pub filter-alike : {A : Type 0} (p q : A → Bool) → ((x : A) → p x ≡ q x)
 filter-alike p q same [] = refl
 filter-alike p q same (x ∷ xs) = ap₂ (λ b rest. cond b (x ∷ rest) rest) (same x) (filter-alike p q same xs)
 
-no_more : {A : Type 0} (name_of : A → List ℕ) (p : A → Bool) (name : List ℕ) (xs : List A) →
-    ((at : ℕ) → slice_get (map name_of xs) at ≡ Some name → ⊥)
-    → filter p xs ≡ filter (λ x. p x && not (bytes_eq name (name_of x))) xs
-no_more name_of p name [] none = refl
-no_more name_of p name (x ∷ xs) none =
-    let other : bytes_eq name (name_of x) ≡ false = false_from_ne_true (bytes_eq name (name_of x)) (λ same.
-    none 0 (ap Some (sym ((bytes_eq-Decides name (name_of x)).0 same)))) in
-    ap₂ (λ b rest. cond b (x ∷ rest) rest) (sym (and-true (p x))
-    ∙ ap (λ b. p x && not b) (sym other)) (no_more name_of p name xs (λ at is. none (suc at) is))
-
--- of elements with distinct names those that pass, without the one of a name
-pub without-filter : {A : Type 0} (name_of : A → List ℕ) (p : A → Bool) (name : List ℕ) (xs : List A) →
-    AreApart (map name_of xs)
-    → without (λ x. bytes_eq name (name_of x)) (filter p xs) ≡ filter (λ x. p x && not (bytes_eq name (name_of x))) xs
-without-filter name_of p name [] apart = refl
-without-filter name_of p name (x ∷ xs) apart =
-    let rest = filter p xs in
-    let left = filter (λ y. p y && not (bytes_eq name (name_of y))) xs in
-    let more = without-filter name_of p name xs (AreApart-tail (name_of x) (map name_of xs) apart) in
-    elim (p x) as (λ b. without (λ y. bytes_eq name (name_of y)) (cond b (x ∷ rest) rest)
-    ≡ cond (b && not (bytes_eq name (name_of x))) (x ∷ left) left) [
-      | true ↦ elim (bytes_eq name (name_of x)) as (λ b. bytes_eq name (name_of x) ≡ b →
-          (if b then rest else x ∷ without (λ y. bytes_eq name (name_of y)) rest) ≡ cond (not b) (x ∷ left) left) [
-            | true ↦ λ same. no_more name_of p name xs (λ at is.
-                AreApart-head (name_of x) (map name_of xs) at apart (is
-                ∙ ap Some ((bytes_eq-Decides name (name_of x)).0 same)))
-            | false ↦ λ _. ap (λ ys. x ∷ ys) more
-          ] refl
-      | false ↦ more
+filter-filter : {A : Type 0} (p q : A → Bool) (xs : List A) → filter q (filter p xs) ≡ filter (λ x. p x && q x) xs
+filter-filter p q [] = refl
+filter-filter p q (x ∷ xs) =
+    elim (p x) as (λ b. filter q (cond b (x ∷ filter p xs) (filter p xs))
+    ≡ cond (b && q x) (x ∷ filter (λ y. p y && q y) xs) (filter (λ y. p y && q y) xs)) [
+      | true ↦ ap (λ ys. cond (q x) (x ∷ ys) ys) (filter-filter p q xs)
+      | false ↦ filter-filter p q xs
     ]
 
+no_more : {A : Type 0} (name_of : A → List ℕ) (name : List ℕ) (xs : List A) →
+    ((at : ℕ) → slice_get (map name_of xs) at ≡ Some name → ⊥)
+    → xs ≡ filter (λ x. not (bytes_eq name (name_of x))) xs
+no_more name_of name [] none = refl
+no_more name_of name (x ∷ xs) none =
+    let other : bytes_eq name (name_of x) ≡ false = false_from_ne_true (bytes_eq name (name_of x)) (λ same.
+    none 0 (ap Some (sym ((bytes_eq-Decides name (name_of x)).0 same)))) in
+    ap₂ (λ b rest. cond b (x ∷ rest) rest) (ap not (sym other)) (no_more name_of name xs (λ at is. none (suc at) is))
+
+-- of elements with distinct names all but the one of a name
+without-apart : {A : Type 0} (name_of : A → List ℕ) (name : List ℕ) (xs : List A) → AreApart (map name_of xs) →
+    without (λ x. bytes_eq name (name_of x)) xs ≡ filter (λ x. not (bytes_eq name (name_of x))) xs
+without-apart name_of name [] apart = refl
+without-apart name_of name (x ∷ xs) apart =
+    elim (bytes_eq name (name_of x)) as (λ b. bytes_eq name (name_of x) ≡ b →
+    (if b then xs else x ∷ without (λ y. bytes_eq name (name_of y)) xs)
+    ≡ cond (not b) (x ∷ filter (λ y. not (bytes_eq name (name_of y))) xs)
+    (filter (λ y. not (bytes_eq name (name_of y))) xs)) [
+      | true ↦ λ same. no_more name_of name xs (λ at is.
+          AreApart-head (name_of x) (map name_of xs) at apart (is
+          ∙ ap Some ((bytes_eq-Decides name (name_of x)).0 same)))
+      | false ↦ λ _. ap (λ ys. x ∷ ys)
+          (without-apart name_of name xs (AreApart-tail (name_of x) (map name_of xs) apart))
+    ] refl
+
 -- a table without some tags, from which one more is deleted
-pub tags_left-more : (names : List (List ℕ)) (name : List ℕ) (tags : List Tag) → AreApart (names_of tags) →
-    deleted name (tags_left names tags) ≡ tags_left (names ++ name ∷ []) tags
+pub tags_left-more : (names : List (List ℕ)) (name : List ℕ) (tags : List Tag) →
+    AreApart (names_of (tags_left names tags))
+    → deleted name (tags_left names tags) ≡ tags_left (names ++ name ∷ []) tags
 tags_left-more names name tags apart =
     elim (bytes_eq name sel) as (λ b. bytes_eq name sel ≡ b →
     (if b then tags_left names tags else without (is_named name) (tags_left names tags))
     ≡ tags_left (names ++ name ∷ []) tags) [
       | true ↦ λ is_sel. filter-alike _ _ (λ (tag : Tag). sym (stays-sel names name tag.name is_sel)) tags
       | false ↦ λ no_sel.
-          without-filter (λ (tag : Tag). tag.name) (λ (tag : Tag). stays names tag.name) name tags apart
+          without-apart (λ (tag : Tag). tag.name) name (tags_left names tags) apart
+          ∙ filter-filter (λ (tag : Tag). stays names tag.name) (λ (tag : Tag). not (bytes_eq name tag.name)) tags
           ∙ filter-alike _ _ (λ (tag : Tag). sym (stays-other names name tag.name no_sel)) tags
     ] refl
 
@@ -126,10 +130,12 @@ tags_left-none (tag ∷ tags) =
     ap₂ (λ b rest. cond b (tag ∷ rest) rest) (or_right (bytes_eq tag.name sel) true refl) (tags_left-none tags)
 
 -- a table without some marks, from which one more is taken out
-pub marks_left-more : (names : List (List ℕ)) (name : List ℕ) (marks : List Mark) → AreApart (mark_names_of marks) →
-    without (mark_is_named name) (marks_left names marks) ≡ marks_left (names ++ name ∷ []) marks
+pub marks_left-more : (names : List (List ℕ)) (name : List ℕ) (marks : List Mark) →
+    AreApart (mark_names_of (marks_left names marks))
+    → without (mark_is_named name) (marks_left names marks) ≡ marks_left (names ++ name ∷ []) marks
 marks_left-more names name marks apart =
-    without-filter (λ (mark : Mark). mark.name) (λ (mark : Mark). is_left names mark.name) name marks apart
+    without-apart (λ (mark : Mark). mark.name) name (marks_left names marks) apart
+    ∙ filter-filter (λ (mark : Mark). is_left names mark.name) (λ (mark : Mark). not (bytes_eq name mark.name)) marks
     ∙ filter-alike _ _ (λ (mark : Mark). sym (not_pushed names name mark.name)) marks
 
 pub marks_left-none : (marks : List Mark) → marks_left [] marks ≡ marks

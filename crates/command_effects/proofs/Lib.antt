@@ -1,6 +1,5 @@
 pub mod Common
 pub mod LeftLaws
-pub mod ListingLaws
 pub mod MadeLaws
 pub mod PairLaws
 pub mod PieceLaws

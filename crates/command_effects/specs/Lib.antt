@@ -2,7 +2,6 @@ pub mod Arguments
 pub mod Comparisons
 pub mod Edits
 pub mod Faults
-pub mod Listing
 pub mod Lists
 pub mod Marking
 pub mod Ranges

@@ -1,12 +1,11 @@
 //! What the commands of a text widget do and answer: their answers and faults, their words as lists, ranges and
-//! comparisons, lists as they are written, and edits of a store together with the tables of its tags and its marks.
+//! comparisons, and edits of a store together with the tables of its tags and its marks.
 #![tactic(auto)]
 
 mod answers;
 mod arguments;
 mod comparisons;
 mod edits;
-mod listing;
 mod lists;
 mod marking;
 mod ranges;
@@ -20,13 +19,10 @@ pub use arguments::{first, first_two, none_or_one, one, one_or_two, three, two, 
 pub use command_table::is_word;
 pub use comparisons::Comparison;
 pub use edits::{clear_slots, prepare_drop, put_mark, put_widget_marks, set_slot, take_marks};
-pub use listing::{
-    push_filled, push_mark_names, push_names, push_names_in, push_next, push_previous, push_ranges,
-};
 pub use lists::{Pair, pairs_at};
 pub use marking::{gravity_word, make_mark, numbers_named, read_gravity, turn_mark, unset_names};
 pub use ranges::spans_of;
 pub use settings::{DocumentSettings, Settings, boolean_at};
 pub use tagged_edits::{plan_pairs, plan_replacement, tag_spans};
-pub use tagging::{delete_names, deleted_slots, find_tag};
+pub use tagging::{delete_names, deleted_slots, find_tag, own_slot};
 pub use words::is_among;

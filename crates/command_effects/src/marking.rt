@@ -56,7 +56,7 @@ pub fn turn_mark<S: TextStore>(
     ensures err { OnErr result ((S.content store.new ≡ S.content store.old) × (marks.new ≡ marks.old)) }
 {
     put_mark(alloc, store, number, place)?;
-    let _known = marks.set_gravity(name, place.gravity);
+    let _ = marks.set_gravity(name, place.gravity);
     Ok(())
 }
 
@@ -79,16 +79,14 @@ pub fn make_mark<S: TextStore>(
         offset,
         gravity: Gravity::Right,
     };
-    match marks.create(String::from_str(alloc, name)?)? {
-        None => Err(Fault::TooManyMarks),
-        Some(number) => match put_mark(alloc, store, number, place) {
-            Ok(()) => Ok(()),
-            Err(_) => {
-                marks.unset(name);
-                Err(Fault::Memory)
-            }
-        },
+    let number = marks
+        .create(String::from_str(alloc, name)?)?
+        .ok_or(Fault::TooManyMarks)?;
+    if put_mark(alloc, store, number, place).is_err() {
+        marks.unset(name);
+        return Err(Fault::Memory);
     }
+    Ok(())
 }
 
 /// The numbers of the marks of these names; unknown ones are skipped.
@@ -111,10 +109,9 @@ pub fn numbers_named(
 
 /// Takes the marks of these names out of a table. Unknown ones are skipped.
 pub fn unset_names(marks: &mut MarkTable, names: &[String])
-    ensures { marks.new ≡ record marks.old { marks = marks_left (texts_of names.now) marks.old.marks } }
+    ensures value { marks.new ≡ record marks.old { marks = marks_left (texts_of names.now) marks.old.marks } }
+    ensures sound { AreMarks marks.old → AreMarks marks.new }
 {
-    // Where the marks are counted, they are known to be those of a table.
-    let _count = marks.len();
     for name in names {
         marks.unset(name.as_str());
     }

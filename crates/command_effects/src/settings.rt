@@ -46,20 +46,14 @@ pub struct Settings {
 pub fn boolean_at(position: usize, word: &str) -> Result<bool, Fault>
     ensures { result ≡ ok_or (boolean_of (chars word.now)) (BadBoolean position) }
 {
-    match boolean(word) {
-        Ok(value) => Ok(value),
-        Err(_) => Err(Fault::BadBoolean(position)),
-    }
+    boolean(word).map_err(|_| Fault::BadBoolean(position))
 }
 
 /// The integer that the word at a position is.
 fn integer_at(position: usize, word: &str) -> Result<i32, Fault>
     ensures { result ≡ ok_or (integer_of (chars word.now)) (BadInteger position) }
 {
-    match integer(word) {
-        Ok(value) => Ok(value),
-        Err(_) => Err(Fault::BadInteger(position)),
-    }
+    integer(word).map_err(|_| Fault::BadInteger(position))
 }
 
 /// Whether the word at a position, that of a widget's state, says that it is disabled.
@@ -79,11 +73,7 @@ fn state_at(position: usize, word: &str) -> Result<bool, Fault>
 fn line_numbered(number: i32) -> Option<usize>
     ensures { result ≡ line_numbered number }
 {
-    if number > 0 {
-        Some(number.unsigned_abs() as usize)
-    } else {
-        None
-    }
+    (number > 0).then_some(number.unsigned_abs() as usize)
 }
 
 /// The line that the word at a position is; none where it is empty.
@@ -93,36 +83,22 @@ fn line_at(position: usize, word: &str) -> Result<Option<usize>, Fault>
     if word.is_empty() {
         return Ok(None);
     }
-    match line_numbered(integer_at(position, word)?) {
-        None => Err(Fault::BadInteger(position)),
-        Some(line) => Ok(Some(line)),
-    }
+    let line = line_numbered(integer_at(position, word)?).ok_or(Fault::BadInteger(position))?;
+    Ok(Some(line))
 }
 
 /// The line at which a view begins, in a document of so many lines.
 fn start_bound(lines: usize, asked: Option<usize>) -> Option<usize>
     ensures { result ≡ start_bound lines asked }
 {
-    match asked {
-        None => None,
-        Some(line) => {
-            if line > lines {
-                Some(lines + 1)
-            } else {
-                Some(line)
-            }
-        }
-    }
+    Some(asked?.min(lines.saturating_add(1)))
 }
 
 /// The line before which a view ends, in a document of so many lines.
 fn end_bound(lines: usize, asked: Option<usize>) -> Option<usize>
     ensures { result ≡ end_bound lines asked }
 {
-    match asked {
-        None => None,
-        Some(line) => { if line <= lines { Some(line) } else { None } }
-    }
+    asked.filter(|line| *line <= lines)
 }
 
 /// A number as a text.

@@ -1,11 +1,11 @@
 //! The slots of tags by name, where `sel` is the widget's own; creates new tags and deletes old ones.
 
-ghost use Rattle.std.specs.Prelude.{◌≡◌, ◌≢◌, ◌+◌, ◌<◌, length, map, Some, Err, chars, option_map, IfOk, IfErr};
+ghost use Rattle.std.specs.Prelude.{◌≡◌, ◌≢◌, ◌+◌, ◌<◌, length, map, Some, chars, option_map, IfOk, IfErr};
 ghost use Rattle.std.specs.Prelude.{OnOk, IfSome};
 ghost use Rattle.std.specs.FinSet as set;
 ghost use Rattle.std.specs.List.{All};
 ghost use Rattle.index_grammar.specs.Names.{known_tags};
-ghost use Rattle.tag_table.specs.Tags.{Tags, slot_of, names_of};
+ghost use Rattle.tag_table.specs.Tags.{AreTags, Tags, slot_of, names_of};
 ghost use Rattle.tcl_words.specs.Unread.{texts_of};
 ghost use Rattle.text_model.specs.TagBits.{slot_count};
 ghost use Rattle.text_model.specs.declared.limits.TheConstants.Limits.{MOST_WIDGETS};
@@ -137,10 +137,7 @@ fn taken_slot(tags: &TagTable, name: &str) -> Option<TagSlot>
     ensures value { option_map (λ slot. slot.0) result ≡ slot_taken (slot_of (chars name.now) tags.now.tags) }
     ensures bound { IfSome result (λ slot. slot.0 < slot_count) }
 {
-    match tags.find(name) {
-        None => None,
-        Some(slot) => { if slot.0 == 0 { None } else { Some(slot) } }
-    }
+    tags.find(name).filter(|slot| slot.0 != 0)
 }
 
 /// The slots of the tags of these names, but that of `sel`.
@@ -164,10 +161,9 @@ pub fn deleted_slots(
 
 /// Takes the tags of these names out of a table, but `sel`.
 pub fn delete_names(tags: &mut TagTable, names: &[String])
-    ensures { tags.new ≡ record tags.old { tags = tags_left (texts_of names.now) tags.old.tags } }
+    ensures value { tags.new ≡ record tags.old { tags = tags_left (texts_of names.now) tags.old.tags } }
+    ensures sound { AreTags tags.old → AreTags tags.new }
 {
-    // Where the tags are counted, they are known to be those of a table.
-    let _count = tags.len();
     for name in names {
         tags.delete(name.as_str());
     }

@@ -3,7 +3,8 @@ use Rattle.documents.proofs.Common.{◌≡◌, ℕ, suc, ◌+◌, ◌-◌, ◌�
 use Rattle.documents.proofs.Common.{subst, Action, AreExact, EditTold, KeyedCell, Place, Span, TellsCells, carried_all}
 use Rattle.documents.proofs.Common.{characters, deletion, drawn, goes_behind, if◌then◌else◌, insertion, length-map}
 use Rattle.documents.proofs.Common.{moved, nat_lt, true, false, TextChange, min, ltb-false, reverse, AreApart}
-use Rattle.documents.proofs.Common.{replacing, inserting-of}
+use Rattle.documents.proofs.Common.{replacing}
+use Rattle.edit_ops.proofs.HunkLaws.{inserting-of}
 use Rattle.edit_ops.proofs.DeterminedLaws.{Shape, shape_of, EndBelow, told-below}
 use Rattle.edit_ops.proofs.ExactShapeLaws.{exact-deletions, exact-hunks, exact-none, exact-replacement, hunk_shape}
 use Rattle.edit_ops.proofs.ExactShapeLaws.{span_shape}

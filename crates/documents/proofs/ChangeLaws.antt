@@ -2,7 +2,8 @@
 use Rattle.documents.proofs.Common.{◌≡◌, ◌≢◌, ℕ, ◌+◌, ◌≤◌, Err, Ok, length, take, refl, sym, ap, ap₂, subst, ◌∙◌, arith}
 use Rattle.documents.proofs.Common.{Tags, LimitTable, FitsText, Answer, Empty, Fault, Memory, IsFront, Document, Parts}
 use Rattle.documents.proofs.Common.{document_of, IsSound, Stands, Change, Does, answered, refused, IsWellFormedDocument}
-use Rattle.documents.proofs.Common.{window_names, Result, Action, List, [], edited, names_of}
+use Rattle.documents.proofs.Common.{window_names, Result, Action, List, [], edited}
+use Rattle.name_list.specs.Names.{names_of}
 use Rattle.documents.proofs.PartsLaws.{marks-kept, tags-kept}
 use Rattle.documents.proofs.WellFormedLaws.{IsWellFormedDocument-kept, fits-kept, windows-kept}
 use Rattle.text_model.specs.Content as model

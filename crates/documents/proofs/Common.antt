@@ -4,22 +4,20 @@ pub use Rattle.std.proofs.Common.{◌^◌, ◌||◌, ◌∙◌, ◌∷◌, ◌�
 pub use Rattle.std.proofs.Common.{None, Ok, OnErr, OnOk, Option, Result, Some, String, ap, append-nil, append_assoc}
 pub use Rattle.std.proofs.Common.{arith, bytes_eq, chars, cond, drop, encode_utf8_all, eq-eqb, eqb-true, false, filter}
 pub use Rattle.std.proofs.Common.{find, get_or, get_or-append-add, inl, inr, is_some, length, length-append}
-pub use Rattle.std.proofs.Common.{length-drop, length-take, map, max, min, nat_le, nat_lt, ne_eqb, not, option_and_then}
+pub use Rattle.std.proofs.Common.{length-drop, length-take, map, max, min, nat_le, nat_lt, not, option_and_then}
 pub use Rattle.std.proofs.Common.{option_map, refl, remove, rules, set, slice_get, slice_index_or, slice_range}
 pub use Rattle.std.proofs.Common.{string_bytes, subst, suc, sym, take, true, zero}
-pub use Rattle.command_effects.proofs.LeftLaws.{AreApart-head, AreApart-tail}
-pub use Rattle.command_effects.proofs.MadeLaws.{absent_slot, among_slot, found_tag, front_same, take-more}
+pub use Rattle.command_effects.proofs.MadeLaws.{absent_slot, among_slot, found_tag, front_same}
 pub use Rattle.command_effects.proofs.PairLaws.{spans_of-fit}
 pub use Rattle.command_effects.proofs.WrittenLaws.{filter-append, filter-in, filter-out, take-found}
 pub use Rattle.command_effects.specs.Edits.{excess, length_replaced, new_mark, with_own_marks, without_widget}
 pub use Rattle.command_effects.specs.Faults.{at_position, edit_fault, index_fault}
-pub use Rattle.command_effects.specs.Listing.{begun, range_words}
 pub use Rattle.command_effects.specs.Lists.{Pair, all_names, listed_names, total, with_name, with_names}
 pub use Rattle.command_effects.specs.Marking.{IsMadeMark, is_left, marks_left, numbers_named, taken}
 pub use Rattle.command_effects.specs.Ranges.{spans_of}
 pub use Rattle.command_effects.specs.Settings.{first_document_settings, history_under, is_behind, recording_of}
-pub use Rattle.command_effects.specs.Tagging.{IsFront, own_slot, piece_of, slot_taken, slots_deleted, slots_named}
-pub use Rattle.command_effects.specs.Tagging.{stays, tags_left, with_found}
+pub use Rattle.command_effects.specs.Tagging.{IsFront, own_slot, piece_of, slots_deleted, slots_named, stays, tags_left}
+pub use Rattle.command_effects.specs.Tagging.{with_found}
 pub use Rattle.command_effects.specs.Words.{is_among, is_own, is_same, literal}
 pub use Rattle.command_effects.specs.declared.answers.Answer.{Answer}
 pub use Rattle.command_effects.specs.declared.answers.Answer.TheVariants.{Empty}
@@ -31,22 +29,18 @@ pub use Rattle.command_effects.specs.declared.settings.DocumentSettings.{Documen
 pub use Rattle.command_effects.specs.declared.settings.Settings.{Settings}
 pub use Rattle.documents.specs.Deletions.{delete_places, delete_spans, deleted_runs, deletions, last_bare, replace_span}
 pub use Rattle.documents.specs.Deletions.{replaced, with_clipped}
-pub use Rattle.documents.specs.Documents.{Document, Journal, KeyedCell, Parts, SharedMark, Widget, anchors_at}
-pub use Rattle.documents.specs.Documents.{characters, document_of, mark_of, no_widget, placed, whole, widget_at}
-pub use Rattle.documents.specs.Documents.{widget_of}
-pub use Rattle.documents.specs.Edits.{KeyedText, bare, common_keys, keys_between, keys_or, widget_drawn, widget_moved}
-pub use Rattle.documents.specs.Edits.{with_action, with_bare, with_cells, with_key, with_tag, with_text, with_texts}
-pub use Rattle.documents.specs.Edits.{without_cells, without_span, without_spans}
+pub use Rattle.documents.specs.Documents.{Document, Journal, Parts, SharedMark, Widget, anchors_at, document_of}
+pub use Rattle.documents.specs.Documents.{mark_of, no_widget, placed, whole, widget_at, widget_of}
+pub use Rattle.documents.specs.Edits.{KeyedText, widget_drawn, widget_moved, with_action, with_bare, with_cells}
+pub use Rattle.documents.specs.Edits.{with_text, with_texts, without_cells, without_span, without_spans}
 pub use Rattle.documents.specs.History.{action_again, action_back, edit_redo, edit_reset, edit_separator, edit_undo}
 pub use Rattle.documents.specs.History.{group_again, group_back, modified_set, redo_found, redone, text_back}
 pub use Rattle.documents.specs.History.{undo_found, undone, with_end}
 pub use Rattle.documents.specs.Inside.{parts_of}
-pub use Rattle.documents.specs.Kept.{AreKnown, AreMarked, AreSeats, HasKnownSlots, HasOwnMarks, IsMarked, IsOrderly}
-pub use Rattle.documents.specs.Kept.{IsSeated, IsSound, Stands, is_window_name}
-pub use Rattle.documents.specs.Keys.{Key, Keys, is_shared, key_cmp, key_named, key_pairs, keyed, keys_named, keys_of}
-pub use Rattle.documents.specs.Keys.{numbers_gone, pair_slots, rank, seat_pair, seats_left, selection_stays, set_key}
-pub use Rattle.documents.specs.Keys.{tag_pair}
-pub use Rattle.documents.specs.Marks.{mark_names, mark_unset, origin_in, place_named, set_found, shared_from, shown_at}
+pub use Rattle.documents.specs.Kept.{AreMarked, HasOwnMarks, IsMarked, IsOrderly, IsSeated, IsSound, Stands}
+pub use Rattle.documents.specs.Kept.{is_window_name}
+pub use Rattle.documents.specs.Listing.{begun, is_filled, range_words}
+pub use Rattle.documents.specs.Marks.{mark_names, mark_unset, place_named, set_found, shared_from, shown_at}
 pub use Rattle.documents.specs.Marks.{usable_marks, with_current, with_insert, with_mark, with_shared, with_widget}
 pub use Rattle.documents.specs.MarksListed.{AreListed, IsSettled, all_carried_within, carried_within, mark_taken}
 pub use Rattle.documents.specs.MarksListed.{shared_key}
@@ -58,14 +52,9 @@ pub use Rattle.documents.specs.Options.{AreLines, IsLine, anchor_at, settings_of
 pub use Rattle.documents.specs.Promise.{Change, Does, Gives, answered, change_with, edited, refused, unless_idle}
 pub use Rattle.documents.specs.Ranges.{spans_shown}
 pub use Rattle.documents.specs.Seats.{IsLonger}
-pub use Rattle.documents.specs.Tags.{add_spans, key_stays, known_or, lowered, raised, remove_spans, reordered}
-pub use Rattle.documents.specs.Tags.{tag_delete, tags_on, without_tags}
-pub use Rattle.documents.specs.TagsGone.{AreGone, TellsGone}
-pub use Rattle.documents.specs.TagsTold.{AddsRuns, AreDistinct, AreGapped, AreRising, HoldsSlots, IsTagChange, IsTagRun}
-pub use Rattle.documents.specs.TagsTold.{LeavesGap, LiesIn, TellsRuns, TellsSpan, TellsSpans, TellsTags, after_changes}
-pub use Rattle.documents.specs.TagsTold.{flags_of, in_key_run, in_run, is_turned, some_change, untagged}
+pub use Rattle.documents.specs.Tags.{add_spans, known_or, remove_spans, reordered, tag_delete, tags_on}
 pub use Rattle.documents.specs.Texts.{insert_at, insertion_offset, joined_text, keyed_text, tags_with, within_limits}
-pub use Rattle.documents.specs.Told.{Foretells, TellsCells, reply_of}
+pub use Rattle.documents.specs.Told.{Foretells, reply_of}
 pub use Rattle.documents.specs.Views.{is_idle, shown, shown_flags, view_end, view_start}
 pub use Rattle.documents.specs.WellFormed.{HasItsKeys, IsPlaced, IsWellFormedDocument, belongs, window_names}
 pub use Rattle.documents.specs.Widgets.{IsOpen, ShowsOpenly, is_kept, new_widget, widget_named, with_peer}
@@ -74,102 +63,114 @@ pub use Rattle.documents.specs.declared.mark_lists.MarkChange.{MarkChange}
 pub use Rattle.documents.specs.declared.mark_lists.MarkKey.{MarkKey}
 pub use Rattle.documents.specs.declared.mark_lists.MarkKind.{MarkKind}
 pub use Rattle.documents.specs.declared.mark_lists.MarkKind.TheVariants.{Current, Insert, Shared}
-pub use Rattle.documents.specs.declared.tag_lists.TagChange.{TagChange}
-pub use Rattle.documents.specs.declared.told.EditTold.{EditTold}
 pub use Rattle.edit_ops.proofs.AnchoredLaws.{all-moved, all-removed, anchored-stand}
-pub use Rattle.edit_ops.proofs.HunkLaws.{inserting-of, map-patched}
 pub use Rattle.edit_ops.proofs.KeepLaws.{deleted-kept, deleted-runs, replaced-kept, texts-kept}
 pub use Rattle.edit_ops.proofs.ReversalLaws.{back-cons, back-reverted, back-undone, group-redone-text}
 pub use Rattle.edit_ops.proofs.ReversalLaws.{group-undone-text, guarded, guarded-holds, redone-kept, redone-text}
 pub use Rattle.edit_ops.proofs.ReversalLaws.{undone-kept}
-pub use Rattle.edit_ops.proofs.RunLaws.{inside, inside-before, inside-behind, inside-is, some_is}
+pub use Rattle.edit_ops.proofs.RunLaws.{some_is}
 pub use Rattle.edit_ops.proofs.StartLaws.{Begins, inserted-behind, is-start, removed-behind, text-end-begins}
 pub use Rattle.edit_ops.specs.Anchors.{AnchorsStand, AreAnchored, anchors_moved, anchors_removed}
 pub use Rattle.edit_ops.specs.Deletions.{AreApart, delete_set, deleted, deletions_in, in_spans, removed_spans}
 pub use Rattle.edit_ops.specs.Deletions.{runs_below}
-pub use Rattle.edit_ops.specs.Deltas.{IsDelta, IsLostRun, KnowsDelta, bared, hunks_made, lost_run}
+pub use Rattle.edit_ops.specs.Deltas.{KnowsDelta}
 pub use Rattle.edit_ops.specs.Insertions.{inserted_text, inserted_texts, pieces_text, slots_or}
 pub use Rattle.edit_ops.specs.Removals.{clipped, removed_span, replaced_span}
 pub use Rattle.edit_ops.specs.Replays.{AreScalars, replayed, replays}
 pub use Rattle.edit_ops.specs.Reversals.{action_redone, group_redone, group_undone, log_redone, log_undone, put_back}
 pub use Rattle.edit_ops.specs.Reversals.{redo_end, taken_back, undo_end}
-pub use Rattle.edit_ops.specs.SlotRuns.{AreBareRuns, IsBareRun, bare_cells, slotted, with_slots}
 pub use Rattle.edit_ops.specs.States.{Log, State, log_noted, log_of, state_of}
-pub use Rattle.edit_ops.specs.Tagging.{SpanFits, cell_without, cleared, tagged, without}
-pub use Rattle.edit_ops.specs.Told.{AreExact, AreFalling, AreHunks, AreHunksOf, Tells, after_change, deletion}
-pub use Rattle.edit_ops.specs.Told.{hunk_changes, insertion, patched, patched_by, replacing}
+pub use Rattle.edit_ops.specs.Tagging.{SpanFits, cell_without, cleared, tagged}
+pub use Rattle.edit_ops.specs.Told.{AreExact, AreFalling, AreHunks, Tells, after_change, deletion, insertion, replacing}
 pub use Rattle.edit_ops.specs.declared.anchors.Anchors.{Anchors}
 pub use Rattle.edit_ops.specs.declared.changes.TextChange.{TextChange}
-pub use Rattle.edit_ops.specs.declared.slot_runs.SlotRun.{SlotRun}
 pub use Rattle.edit_ops.specs.declared.slotted_texts.SlottedText.{SlottedText}
 pub use Rattle.edit_ops.specs.declared.spans.Span.{Span}
 pub use Rattle.index_grammar.specs.Names.{known_marks, known_tags}
-pub use Rattle.mark_table.specs.Order.{earlier, rank_of, usable}
-pub use Rattle.mark_table.specs.SharedMarks.{AreMarks, Mark, SharedMarks, first_number, number_of, turned}
+pub use Rattle.mark_table.proofs.ShiftLaws.{AreBelow, next-shifted, previous-shifted, shifted}
+pub use Rattle.mark_table.specs.Order.{origin_in, rank_of, usable}
+pub use Rattle.mark_table.specs.SharedMarks.{AreMarks, Mark, SharedMarks, first_number, is_named, number_of, turned}
 pub use Rattle.mark_table.specs.declared.order.Shown.{Shown}
 pub use Rattle.mark_table.specs.declared.order.WidgetMark.{WidgetMark}
-pub use Rattle.name_list.proofs.ListLaws.{AreApart-insert, Contains-from_stands, stands_from_Contains, stands_map}
-pub use Rattle.name_list.proofs.ListLaws.{stood_at}
-pub use Rattle.name_list.specs.Names.{AreNames, IsLeastFree, Named, Names, names_of, numbers_of}
+pub use Rattle.name_list.proofs.ListLaws.{Contains-from_stands}
+pub use Rattle.name_list.specs.Names.{AreNames, IsLeastFree, Named, Names, numbers_of}
+pub use Rattle.reports.proofs.BridgeLaws.{is_key_of, keys_of-belongs, keys_of-empty, keys_of-has, keys_of-set_slot}
+pub use Rattle.reports.proofs.ClearedLaws.{AreSeats-left, gone-apart, gone-low, keyed-deleted, keyed-unseated}
+pub use Rattle.reports.proofs.ClearedLaws.{known-deleted, known-unseated, map-filter, names_left}
+pub use Rattle.reports.proofs.DeltaLaws.{known-stand, planned-made, taken-stand, told-planned}
+pub use Rattle.reports.proofs.KeyedLaws.{characters-keyed, keyed-bare, keyed-flags, keyed-inserted, keyed-more}
+pub use Rattle.reports.proofs.KeyedLaws.{keyed-removed, keyed-reordered, keyed-seated, keyed-shared, keyed-tagged}
+pub use Rattle.reports.proofs.KeyedLaws.{keyed_cell, length-keyed}
+pub use Rattle.reports.proofs.KnownLaws.{IsKnownPiece, known-changed, known-empty, known-front, known-inserted}
+pub use Rattle.reports.proofs.KnownLaws.{known-named, known-put, known-reordered, known-seated, known-shared}
+pub use Rattle.reports.proofs.KnownLaws.{known-slot}
+pub use Rattle.reports.proofs.LookupLaws.{among-looked, has}
+pub use Rattle.reports.proofs.ReportLaws.{of_tags, still-tells, tags-alone}
+pub use Rattle.reports.proofs.SlotLaws.{AreSeats-names, known_standing, slot_for, slot_for-named}
+pub use Rattle.reports.proofs.SpanToldLaws.{has_key, runs-told, with_tag-none}
+pub use Rattle.reports.proofs.WordLaws.{among-other, same-word, texts-more, words-are}
+pub use Rattle.reports.specs.Cells.{KeyedCell, bare, characters, keyed, keys_between, keys_or, with_key, with_tag}
+pub use Rattle.reports.specs.Cells.{without_tags}
+pub use Rattle.reports.specs.Keys.{Keys, key_named, key_pairs, keys_named, keys_of, numbers_gone, pair_slots}
+pub use Rattle.reports.specs.Keys.{seats_left}
+pub use Rattle.reports.specs.Slots.{AreKnown, AreSeats, HasKnownSlots}
+pub use Rattle.reports.specs.TagsTold.{AreGapped, TellsSpans, TellsTags, flags_of}
+pub use Rattle.reports.specs.Told.{TellsCells}
+pub use Rattle.reports.specs.declared.keys.Key.{Key}
+pub use Rattle.reports.specs.declared.told.EditTold.{EditTold}
 pub use Rattle.search_dump.specs.Dump.{dump_elements, name_of_rank, seen_by}
 pub use Rattle.std.proofs.Math.ListN.{replicate}
-pub use Rattle.std.proofs.lemmas.Bool.{false≢true, and_parts, cases_lt, eqb-false, false_from_ne_true, le-leb, le-ltb}
-pub use Rattle.std.proofs.lemmas.Bool.{lt-ltb, ltb-false, ltb-true, or_left, or_right}
+pub use Rattle.std.proofs.lemmas.Bool.{false≢true, and_parts, cases_lt, false_from_ne_true, le-leb, le-ltb, lt-ltb}
+pub use Rattle.std.proofs.lemmas.Bool.{ltb-false, ltb-true, or_left, or_right}
 pub use Rattle.std.proofs.lemmas.Bool.Decides.{nat_tests}
 pub use Rattle.std.proofs.lemmas.Grind.{get_or-set_at}
-pub use Rattle.std.proofs.lemmas.List.{drop-drop, drop-take, drop_all, drop_at, drop_more, get_or-drop, get_or-map}
-pub use Rattle.std.proofs.lemmas.List.{get_or-set_other, get_or-take, get_or_append_left, get_or_default, get_or_past}
-pub use Rattle.std.proofs.lemmas.List.{length-map, length-set, length-take-le, map-append, map-id, nil_from_length}
-pub use Rattle.std.proofs.lemmas.List.{replicate_more, take-append-drop, take-append-le, take-take, take_all, take_at}
-pub use Rattle.std.proofs.lemmas.List.{take_more}
+pub use Rattle.std.proofs.lemmas.List.{drop-drop, drop-take, drop_all, get_or-drop, get_or-map, get_or-set_other}
+pub use Rattle.std.proofs.lemmas.List.{get_or-take, get_or_append_left, get_or_default, get_or_past, length-map}
+pub use Rattle.std.proofs.lemmas.List.{length-set, length-take-le, map-append, map-id, nil_from_length, replicate_more}
+pub use Rattle.std.proofs.lemmas.List.{take-append-le, take-take, take_all}
 pub use Rattle.std.proofs.lemmas.List.Concat.{flat_map-append}
-pub use Rattle.std.proofs.lemmas.List.Elements.{All-append, All-cons, All-drop, All-from_get_or, All-get_or, All-head}
-pub use Rattle.std.proofs.lemmas.List.Elements.{All-map, All-more, All-nil, All-push, All-replicate, All-set, All-tail}
-pub use Rattle.std.proofs.lemmas.List.Elements.{All-take, All-weaker, Contains-append_cases, Contains-append_left}
-pub use Rattle.std.proofs.lemmas.List.Elements.{Contains-append_right}
-pub use Rattle.std.proofs.lemmas.List.Folds.{drop_split, find-append, flat_map-map, list_any-append}
+pub use Rattle.std.proofs.lemmas.List.Elements.{All-append, All-cons, All-drop, All-head, All-map, All-nil, All-push}
+pub use Rattle.std.proofs.lemmas.List.Elements.{All-replicate, All-set, All-tail, All-take, All-weaker}
+pub use Rattle.std.proofs.lemmas.List.Folds.{find-append, flat_map-map, list_any-append}
 pub use Rattle.std.proofs.lemmas.List.Sums.{sum_by-cons}
-pub use Rattle.std.proofs.lemmas.Map.Lookups.{CmpEqualImpliesEq, exact_pairs, exact_unsigned}
 pub use Rattle.std.proofs.lemmas.Option.{get_or_from_slice_get, none-some, option_and_then_some, same_Some}
-pub use Rattle.std.proofs.lemmas.Option.{slice_get-get_or, slice_get-map, slice_get_within}
-pub use Rattle.std.proofs.lemmas.Result.{IfOk-from_err, on_err_weaker}
+pub use Rattle.std.proofs.lemmas.Option.{slice_get-map}
+pub use Rattle.std.proofs.lemmas.Result.{IfOk-from_err, on_err_weaker, on_ok_weaker}
 pub use Rattle.std.proofs.lemmas.Slice.Eq.{bytes_eq-Decides}
 pub use Rattle.std.proofs.lemmas.Str.{IsUtf8-string_bytes, chars-nil, chars_from_encodes}
 pub use Rattle.std.specs.BTreeMap.{is_at}
 pub use Rattle.std.specs.BTreeSet.{IsUnchanged, contains}
 pub use Rattle.std.specs.Char.{IsScalar}
-pub use Rattle.std.specs.Cmp.{Equal-is, IsTotalOrder, both_ways, nat_cmp_total, tied_itself, unsigned_tied}
-pub use Rattle.std.specs.List.{All, AllByRecursion, cons_option, flat_map, fold, list_any, position_from}
+pub use Rattle.std.specs.List.{All, AllByRecursion, cons_option, flat_map, list_any, position_from}
 pub use Rattle.std.specs.Option.{option_or}
 pub use Rattle.std.specs.Ordering.{eq_by_cmp, is_eq, nat_cmp}
-pub use Rattle.std.specs.Prelude.{Box, IsErr, IsErrAnd, IsUtf8, box_value, codes, is_ok, reverse, unwrap_or}
-pub use Rattle.tag_table.specs.Priority.{next_to}
-pub use Rattle.tag_table.specs.Tags.{AreTags, Tag, Tags, first_slot, is_named, sel, slot_of, slots_of}
+pub use Rattle.std.specs.Prelude.{IsErr, IsErrAnd, IsUtf8, box_value, codes, decimal, is_ok, reverse, unwrap_or}
+pub use Rattle.tag_table.specs.Priority.{IsOrdered, IsUnknown, Order, lowered, raised}
+pub use Rattle.tag_table.specs.Tags.{AreTags, Tag, Tags, first_slot, names_of, sel, slot_of, slots_of}
 pub use Rattle.tag_table.specs.declared.faults.NoSuchTag.TheVariants.{Moved, Neighbour}
+pub use Rattle.tcl_words.proofs.ListGrowth.{goes_nowhere, goes_on}
 pub use Rattle.tcl_words.specs.ListGrowth.{Goes}
 pub use Rattle.tcl_words.specs.ListText.{list_text}
 pub use Rattle.tcl_words.specs.Unread.{texts_of}
 pub use Rattle.text_cursor.specs.Around.{shared_slots}
-pub use Rattle.text_index.proofs.FlagLaws.{next-alike, next-other}
+pub use Rattle.text_index.proofs.RangeLaws.{range-unset, ranges_from-first}
 pub use Rattle.text_index.specs.Meanings.{AreWithin, MeanTheSame, shown_meanings, word_value}
-pub use Rattle.text_index.specs.Ranges.{next_range, previous_range, tag_ranges}
+pub use Rattle.text_index.specs.Positions.{position_text}
+pub use Rattle.text_index.specs.Ranges.{and_later, next_range, previous_range, ranges_from, tag_ranges}
 pub use Rattle.text_index.specs.Views.{IsView, own_place, shared_place, shown_mark}
 pub use Rattle.text_index.specs.Words.{is_word}
 pub use Rattle.text_model.proofs.CellLaws.{characters-inserted, characters-removed, characters-with_slot}
-pub use Rattle.text_model.proofs.CellLaws.{characters-without_slots, contains-set_slot}
+pub use Rattle.text_model.proofs.CellLaws.{characters-without_slots}
 pub use Rattle.text_model.proofs.DocumentLaws.{IsDocument-inserted, IsDocument-new, IsDocument-removed}
-pub use Rattle.text_model.proofs.SpliceLaws.{changed-same, get_or-changed_before, get_or-changed_behind}
-pub use Rattle.text_model.proofs.SpliceLaws.{get_or-changed_within, length-cells_inserted, length-changed}
-pub use Rattle.text_model.proofs.SpliceLaws.{length-inserted, length-removed, map-alike, map-changed, map-inserted}
-pub use Rattle.text_model.proofs.SpliceLaws.{map-map, map-removed, map-slice_range}
-pub use Rattle.text_model.specs.Changes.{flag_at, is_alike, next_change}
+pub use Rattle.text_model.proofs.SpliceLaws.{changed-same, length-cells_inserted, length-changed, length-inserted}
+pub use Rattle.text_model.proofs.SpliceLaws.{length-removed, map-alike, map-changed, map-inserted, map-map, map-removed}
+pub use Rattle.text_model.specs.Changes.{flag_at}
 pub use Rattle.text_model.specs.Content.{Content, Marks, Slots, flags, map_marks, new_content, slot_sets}
 pub use Rattle.text_model.specs.Documents.{IsDocument, MarksStand, ends_in_newline}
 pub use Rattle.text_model.specs.LimitTable.{AreLimits, LimitTable}
 pub use Rattle.text_model.specs.Lines.{IsLineStart, is_newline, line_of, line_start, lines}
 pub use Rattle.text_model.specs.Splices.{changed, drawn, goes_behind, inserted, is_right, moved, removed}
-pub use Rattle.text_model.specs.Steps.{after_insertion, after_removal, after_step, cells_of, set_slot, with_slot}
-pub use Rattle.text_model.specs.Steps.{without_slots}
+pub use Rattle.text_model.specs.Steps.{after_insertion, after_removal, after_step, cells_of, with_slot, without_slots}
 pub use Rattle.text_model.specs.declared.cells.Cell.{Cell}
 pub use Rattle.text_model.specs.declared.edits.Step.TheVariants.{ClearTags, Remove}
 pub use Rattle.text_model.specs.declared.limits.TheConstants.Limits.{MOST_CHARS, MOST_MARKS, MOST_TAGS, MOST_WIDGETS}

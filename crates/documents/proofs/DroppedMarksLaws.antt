@@ -6,10 +6,9 @@ use Rattle.documents.proofs.Common.{if◌then◌else◌, All, All-cons, All-nil,
 use Rattle.documents.proofs.Common.{LimitTable, Place, is_same, is_among, Document, Widget, IsWellFormedDocument}
 use Rattle.documents.proofs.Common.{window_names, is_kept, AreOthers, AreSingle, TellsMarks, mark_at, mark_carried}
 use Rattle.documents.proofs.Common.{own_keys, MarkChange, MarkKey, without_widgets, IsMarkChange, carried_all, gone}
-use Rattle.documents.proofs.Common.{marks_dropped, flat_map-append}
+use Rattle.documents.proofs.Common.{marks_dropped, flat_map-append, same-word, words-are}
 use Rattle.documents.proofs.ListedMarksLaws.{own_listed}
 use Rattle.documents.proofs.MarkReportLaws.{apart-current, apart-kinds, by-kind, current_key, insert_key, own_of}
-use Rattle.documents.proofs.MarksToldLaws.{same-word, words-are}
 use Rattle.std.specs.List.{IsDistinct}
 
 -- ---- a list of them, name by name

@@ -3,8 +3,8 @@ use Rattle.documents.proofs.Common.{◌≡◌, ℕ, suc, ◌+◌, Bool, true, fa
 use Rattle.documents.proofs.Common.{arith, inl, inr, ◌⊎◌, true≢false, IfSome, bytes_eq, find, slice_get, is_some}
 use Rattle.documents.proofs.Common.{position_from, false_from_ne_true, none-some, same_Some, bytes_eq-Decides, Named}
 use Rattle.documents.proofs.Common.{is_among, is_same, Document, Parts, Widget, widget_at, widget_of, Stands}
-use Rattle.documents.proofs.Common.{window_names, widget_named, Option, None, Some, ◌||◌, names_of}
-use Rattle.name_list.specs.Names.{place_of}
+use Rattle.documents.proofs.Common.{window_names, widget_named, Option, None, Some, ◌||◌}
+use Rattle.name_list.specs.Names.{names_of, place_of}
 use Rattle.std.proofs.lemmas.Iterator.Adapters.{position_from-zero}
 use Rattle.documents.proofs.PartsLaws.{widget-is}
 use Rattle.documents.proofs.WellFormedLaws.{windows-kept}

@@ -6,10 +6,11 @@ use Rattle.documents.proofs.Common.{map-map, flat_map-map, same_Some, slice_get,
 use Rattle.documents.proofs.Common.{is_own, is_same, literal, Document, Parts, SharedMark, Widget, mark_unset}
 use Rattle.documents.proofs.Common.{mark_number, placed, widget_at, widget_of, Stands, Mark, Named, suc, AreListed}
 use Rattle.documents.proofs.Common.{shared_key, AreOthers, AreSingle, AreWatched, HasMarksBut, mark_at, mark_key}
-use Rattle.documents.proofs.Common.{mark_keys, own_keys, watched, MarkChange, MarkKey, flat_map, names_of}
-use Rattle.documents.proofs.Common.{flat_map-append}
+use Rattle.documents.proofs.Common.{mark_keys, own_keys, watched, MarkChange, MarkKey, flat_map, flat_map-append}
+use Rattle.documents.proofs.Common.{among-other, words-are}
+use Rattle.name_list.specs.Names.{names_of}
 use Rattle.documents.proofs.MarkReportLaws.{all-back, all-front, by-kind, current_key, insert_key}
-use Rattle.documents.proofs.MarksToldLaws.{among-other, left-none, left-other, same-number, sought, words-are}
+use Rattle.documents.proofs.MarksToldLaws.{left-none, left-other, same-number, sought}
 use Rattle.documents.proofs.PartsLaws.{widget-is}
 use Rattle.documents.proofs.PlacedLaws.{StandsMark, found_mark}
 use Rattle.documents.proofs.SeatLaws.{seat-named}

@@ -1,18 +1,19 @@
 -- A document after a mark is put at a place, made or taken out.
 use Rattle.documents.proofs.Common.{◌≡◌, ◌≢◌, ℕ, zero, suc, ◌+◌, ◌*◌, ◌<◌, ◌≤◌, Bool, true, false, cond, List, [], ◌∷◌}
 use Rattle.documents.proofs.Common.{◌++◌, length, map, refl, sym, ap, ap₂, subst, ◌∙◌, arith, inl, inr, bytes_eq, find}
-use Rattle.documents.proofs.Common.{nat_le, slice_get, is_some, unwrap_or, if◌then◌else◌, nat_cmp_total, unsigned_tied}
-use Rattle.documents.proofs.Common.{AllByRecursion, cons_option, nat_cmp, eq_by_cmp, or_left, or_right, nat_tests}
-use Rattle.documents.proofs.Common.{length-map, length-append, map-append, none-some, same_Some, bytes_eq-Decides}
-use Rattle.documents.proofs.Common.{Named, Contains-from_stands, AreMarks, Mark, SharedMarks, first_number, number_of}
-use Rattle.documents.proofs.Common.{turned, MOST_WIDGETS, Right, Place, Content, Marks, MarksStand, LimitTable, Empty}
-use Rattle.documents.proofs.Common.{TooManyMarks, new_mark, is_left, IsMadeMark, marks_left, numbers_named, taken}
-use Rattle.documents.proofs.Common.{is_among, is_own, is_same, literal, Document, Journal, Parts, SharedMark, Widget}
-use Rattle.documents.proofs.Common.{document_of, mark_of, placed, widget_at, widget_of, AreMarked, AreSeats}
-use Rattle.documents.proofs.Common.{HasOwnMarks, IsMarked, Stands, mark_unset, place_named, set_found, with_current}
-use Rattle.documents.proofs.Common.{with_insert, with_shared, Change, Does, answered, refused, ◌||◌, filter, not}
-use Rattle.documents.proofs.Common.{Option, None, Some, Ok, option_map, true≢false}
-use Rattle.mark_table.specs.SharedMarks.{is_named, numbers_of}
+use Rattle.documents.proofs.Common.{nat_le, slice_get, is_some, unwrap_or, if◌then◌else◌, AllByRecursion, cons_option}
+use Rattle.documents.proofs.Common.{nat_cmp, eq_by_cmp, or_left, or_right, nat_tests, length-map, length-append}
+use Rattle.documents.proofs.Common.{map-append, none-some, same_Some, bytes_eq-Decides, Named, Contains-from_stands}
+use Rattle.documents.proofs.Common.{AreMarks, Mark, SharedMarks, first_number, number_of, turned, MOST_WIDGETS, Right}
+use Rattle.documents.proofs.Common.{Place, Content, Marks, MarksStand, LimitTable, Empty, TooManyMarks, new_mark}
+use Rattle.documents.proofs.Common.{is_left, IsMadeMark, marks_left, numbers_named, taken, is_among, is_own, is_same}
+use Rattle.documents.proofs.Common.{literal, Document, Journal, Parts, SharedMark, Widget, document_of, mark_of, placed}
+use Rattle.documents.proofs.Common.{widget_at, widget_of, AreMarked, AreSeats, HasOwnMarks, IsMarked, Stands}
+use Rattle.documents.proofs.Common.{mark_unset, place_named, set_found, with_current, with_insert, with_shared, Change}
+use Rattle.documents.proofs.Common.{Does, answered, refused, ◌||◌, filter, not, Option, None, Some, Ok, option_map}
+use Rattle.documents.proofs.Common.{true≢false, is_named}
+use Rattle.std.specs.Cmp.{nat_cmp_total, unsigned_tied}
+use Rattle.mark_table.specs.SharedMarks.{numbers_of}
 use Rattle.documents.proofs.ChangeLaws.{Leaves, does-changed, does-nothing, stands-same}
 use Rattle.documents.proofs.PartsLaws.{Sits, mapped-at, marks-kept}
 use Rattle.documents.proofs.PlacedLaws.{AreAlike, StandsMark, found_mark, marked-alike, placed-alike}
@@ -661,7 +662,7 @@ stand-taken (number ∷ numbers) content stand =
     by other found false same = stand other found same
 
 pub leaves-unset : {old : Parts} {new : SharedMarks} {changed : Content} {document : Document} {numbers : List ℕ}
-    (limits : LimitTable) (names : List (List ℕ)) → Stands old document → AreMarks new
+    (limits : LimitTable) (names : List (List ℕ)) → Stands old document → (AreMarks old.marks → AreMarks new)
     → new ≡ record old.marks { marks = marks_left names old.marks.marks } →
     numbers ≡ numbers_named old.marks.marks names → changed
     ≡ record old.content { marks = taken numbers old.content.marks }
@@ -698,7 +699,7 @@ leaves-unset {old} {new} {changed} {document} {numbers} limits names stands soun
     let count = shorter names marks in
     let done = leaves-remarked limits old made_table places document (mark_unset document names) stands
     (record {
-      marks = subst AreMarks table sound;
+      marks = subst AreMarks table (sound marked.marks);
       roomy = marked.roomy;
       each = marked-left places old.content.marks names marks alike marked.each;
     })

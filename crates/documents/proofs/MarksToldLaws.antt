@@ -1,20 +1,14 @@
 -- Words, and shared marks by their names, as they are listed, set and unset.
-use Rattle.documents.proofs.Common.{◌≡◌, ℕ, suc, ◌+◌, ◌≤◌, Bool, true, false, List, [], ◌∷◌, ◌++◌, length, map, refl}
-use Rattle.documents.proofs.Common.{◌<◌, get_or, take, sym, ap, ◌∙◌, arith, true≢false, find, if◌then◌else◌, is_at}
-use Rattle.documents.proofs.Common.{nat_cmp, is_eq, map-append, take_more, exact_unsigned, position_from}
-use Rattle.documents.proofs.Common.{false_from_ne_true, none-some, same_Some, bytes_eq-Decides, Right, Place, texts_of}
-use Rattle.documents.proofs.Common.{is_left, is_among, is_same, literal, Document, SharedMark, mark_number, ◌≢◌, filter}
-use Rattle.documents.proofs.Common.{not, Option, None, Some, chars, string_bytes, option_map, ◌||◌, String}
+use Rattle.documents.proofs.Common.{◌≡◌, ℕ, suc, ◌+◌, ◌≤◌, Bool, true, false, List, [], ◌∷◌, ◌++◌, map, refl, sym, ap}
+use Rattle.documents.proofs.Common.{◌∙◌, arith, true≢false, find, if◌then◌else◌, is_at, nat_cmp, is_eq, position_from}
+use Rattle.documents.proofs.Common.{false_from_ne_true, none-some, same_Some, Right, Place, is_left, is_among, is_same}
+use Rattle.documents.proofs.Common.{literal, Document, SharedMark, mark_number, ◌≢◌, filter, not, Option, None, Some}
+use Rattle.documents.proofs.Common.{option_map, words-are}
+use Rattle.std.proofs.lemmas.Map.Lookups.{exact_unsigned}
 use Rattle.std.specs.Bool.{OnFalse}
 use Rattle.std.specs.declared.cmp.Ordering.TheVariants.{Less, Equal, Greater}
 
 -- ---- words
-
-pub same-word : (word : List ℕ) → is_same word word ≡ true
-same-word word = (bytes_eq-Decides word word).1 refl
-
-pub words-are : (a b : List ℕ) → is_same a b ≡ true → a ≡ b
-words-are a b = (bytes_eq-Decides a b).0
 
 -- a word that isn't another one isn't what the other one is
 other-word : (word name known : List ℕ) → is_same word name ≡ false → is_same name known ≡ true →
@@ -184,19 +178,6 @@ same-number document a b number first second =
 
 -- ---- words and one more
 
-pub among-last : (name word : List ℕ) (names : List (List ℕ)) → is_same name word ≡ true →
-    is_among name (names ++ word ∷ []) ≡ true
-among-last name word [] is = ap (λ b. b || false) is
-among-last name word (first ∷ names) is =
-    elim (is_same name first) as (λ b. (b || is_among name (names ++ word ∷ [])) ≡ true)
-    [ true ↦ refl | false ↦ among-last name word names is ]
-
-pub among-other : (name word : List ℕ) (names : List (List ℕ)) → is_same name word ≡ false →
-    is_among name (names ++ word ∷ []) ≡ is_among name names
-among-other name word [] other = ap (λ b. b || false) other
-among-other name word (first ∷ names) other =
-    ap (λ b. is_same name first || b) (among-other name word names other)
-
 -- ---- words and numbers that were seen
 
 pub other-number : (place number : ℕ) → number ≢ place → is_at (nat_cmp place) number ≡ false
@@ -218,12 +199,3 @@ not-false false new is none = absurd (true≢false (sym is ∙ none))
 pub on-false : (test : Bool) (P : Type 0) → OnFalse test P → test ≡ false → P
 on-false true P holds none = absurd (true≢false none)
 on-false false P holds none = holds
-
--- the characters of one word more
-pub texts-more : {Z : Type 0} (words : List (String Z)) (at : ℕ) (word : String Z) (bytes : List ℕ)
-    → at < length words → word ≡ get_or words at word → bytes ≡ string_bytes word
-    → texts_of (take at words) ++ chars bytes ∷ [] ≡ texts_of (take (at + 1) words)
-texts-more {Z} words at word bytes within is spelled =
-    ap (λ bs. texts_of (take at words) ++ chars bs ∷ []) (spelled ∙ ap (λ (w : String Z). string_bytes w) is)
-    ∙ sym (map-append (λ (w : String Z). chars (string_bytes w)) (take at words) (get_or words at word ∷ []))
-    ∙ ap texts_of (sym (take_more words at word within))

@@ -8,8 +8,7 @@ use Rattle.documents.proofs.Common.{MeanTheSame, shown_meanings, word_value, new
 use Rattle.documents.proofs.Common.{literal, is_same, found_tag, Document, Parts, SharedMark, Widget, mark_of, placed}
 use Rattle.documents.proofs.Common.{widget_at, key_named, AreMarked, Stands, mark_number, mark_place, meanings}
 use Rattle.documents.proofs.Common.{place_of, tag_flags, tag_number, Gives, shown, shown_flags, view_end, view_start}
-use Rattle.documents.proofs.Common.{IfOk, Option, None, Some, Result, Ok, Err, option_map, get_or, ◌==◌}
-use Rattle.tag_table.specs.Tags.{names_of}
+use Rattle.documents.proofs.Common.{IfOk, Option, None, Some, Result, Ok, Err, option_map, get_or, ◌==◌, names_of}
 use Rattle.std.specs.Str.{chars}
 use Rattle.index_grammar.specs.declared.faults.IndexFault.{IndexFault}
 use Rattle.text_index.proofs.MeaningLaws.{word_value-same}

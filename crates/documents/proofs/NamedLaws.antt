@@ -7,13 +7,9 @@ use Rattle.documents.proofs.Common.{bytes_eq-Decides, Named, AreTags, Tag, Tags,
 use Rattle.documents.proofs.Common.{key_pairs, keys_named, AreKnown, AreSeats, SlottedText, Pair, all_names}
 use Rattle.documents.proofs.Common.{listed_names, with_name, with_names, piece_of, slots_named, with_found, keyed_text}
 use Rattle.documents.proofs.Common.{is_among, is_same, Widget, KeyedText, slice_get, length-append, IfSome, bytes_eq}
-use Rattle.documents.proofs.Common.{if◌then◌else◌}
-use Rattle.tag_table.specs.Tags.{names_of}
+use Rattle.documents.proofs.Common.{if◌then◌else◌, names_of, keys_of-empty, keys_of-set_slot, IsKnownPiece, known-named}
+use Rattle.documents.proofs.Common.{among-looked, slot_for-named}
 use Rattle.edit_ops.specs.Insertions.{total}
-use Rattle.documents.proofs.BridgeLaws.{keys_of-empty, keys_of-set_slot}
-use Rattle.documents.proofs.KnownLaws.{IsKnownPiece, known-named}
-use Rattle.documents.proofs.LookupLaws.{among-looked}
-use Rattle.documents.proofs.SlotLaws.{slot_for-named}
 use Rattle.std.specs.FinSet as set
 use Rattle.command_effects.specs.Lists as texts
 

@@ -1,10 +1,10 @@
 -- A document as it is kept: its characters, its widgets, and what of it a change leaves.
 use Rattle.documents.proofs.Common.{◌≡◌, ℕ, zero, suc, ◌+◌, ◌*◌, ◌<◌, true, List, [], ◌∷◌, length, map, refl, sym, ap}
 use Rattle.documents.proofs.Common.{subst, ◌∙◌, option_map, Some, AllByRecursion, length-map, none-some, same_Some}
-use Rattle.documents.proofs.Common.{get_or_from_slice_get, slice_get-map, Cell, MOST_WIDGETS, Named, numbers_of, Tag}
+use Rattle.documents.proofs.Common.{get_or_from_slice_get, slice_get-map, MOST_WIDGETS, Named, numbers_of, Tag}
 use Rattle.documents.proofs.Common.{AreAnchored, Document, Parts, anchors_at, characters, document_of, no_widget, whole}
 use Rattle.documents.proofs.Common.{widget_at, widget_of, HasOwnMarks, Anchors, IsSeated, IsSound, Stands, Key}
-use Rattle.documents.proofs.Common.{key_pairs, keyed, slice_get, is_some}
+use Rattle.documents.proofs.Common.{key_pairs, slice_get, is_some, characters-keyed, length-keyed}
 use Rattle.documents.proofs.PlacedLaws.{placed-length}
 use Rattle.std.specs.FinMap as finite
 use Rattle.text_model.specs.Content as model
@@ -14,14 +14,6 @@ pub stand : {parts : Parts} {document : Document} → IsSound parts → document
 stand sound is = record { sound = sound; is = is }
 
 -- ---- its characters and counts
-
-pub characters-keyed : (pairs : List (ℕ × Key)) (cells : List Cell) →
-    characters (keyed pairs cells) ≡ model.characters cells
-characters-keyed pairs [] = refl
-characters-keyed pairs (cell ∷ cells) = ap (λ cs. cell.character ∷ cs) (characters-keyed pairs cells)
-
-pub length-keyed : (pairs : List (ℕ × Key)) (cells : List Cell) → length (keyed pairs cells) ≡ length cells
-length-keyed pairs cells = length-map cells _
 
 abbrev pub pairs_of : Parts → List (ℕ × Key)
 pairs_of parts = key_pairs parts.seats.entries parts.tags.tags

@@ -4,8 +4,8 @@ use Rattle.documents.proofs.Common.{◌∙◌, arith, inl, inr, ◌⊎◌, bytes
 use Rattle.documents.proofs.Common.{if◌then◌else◌, AllByRecursion, position_from, false≢true, length-map, none-some}
 use Rattle.documents.proofs.Common.{bytes_eq-Decides, Mark, SharedMarks, number_of, Gravity, Place, Marks, map_marks}
 use Rattle.documents.proofs.Common.{goes_behind, moved, AreMarked, IsMarked, is_own, is_same, SharedMark, mark_of}
-use Rattle.documents.proofs.Common.{placed, new_mark, Option, None, Some, option_map}
-use Rattle.mark_table.specs.SharedMarks.{is_named, names_of, numbers_of}
+use Rattle.documents.proofs.Common.{placed, new_mark, Option, None, Some, option_map, is_named}
+use Rattle.mark_table.specs.SharedMarks.{names_of, numbers_of}
 use Rattle.text_model.proofs.PlaceLaws.{get-map_marks}
 use Rattle.std.specs.FinMap as finite
 

@@ -5,9 +5,8 @@ use Rattle.documents.proofs.Common.{refused, within_limits, Pair, piece_of, join
 use Rattle.documents.proofs.Common.{◌≢◌, flat_map-map, Widget, insert_at, replace_span, replaced, with_texts}
 use Rattle.documents.proofs.Common.{keyed_text, tags_with, total, edited, ◌-◌, Stands, Parts, AreTags, IsFront}
 use Rattle.documents.proofs.Common.{key_pairs, keyed, insertion, deletion, Cell, characters, [], ◌∷◌, ◌∙◌, length}
-use Rattle.documents.proofs.Common.{pieces_text, SlottedText}
+use Rattle.documents.proofs.Common.{pieces_text, SlottedText, keyed-more}
 use Rattle.edit_ops.specs.Inserted.{replacement}
-use Rattle.documents.proofs.KeyedLaws.{keyed-more}
 use Rattle.text_model.specs.Content as model
 use Rattle.undo_stack.specs.declared.actions.EditKind.TheVariants as kind
 

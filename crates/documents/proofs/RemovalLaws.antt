@@ -8,9 +8,8 @@ use Rattle.documents.proofs.Common.{State, SpanFits, Span, deleted-kept, deleted
 use Rattle.documents.proofs.Common.{delete_places, delete_spans, deleted_runs, last_bare, Document, Parts, Widget}
 use Rattle.documents.proofs.Common.{document_of, widget_at, with_bare, without_spans, HasKnownSlots, Stands}
 use Rattle.documents.proofs.Common.{spans_shown, is_idle, slice_range, if◌then◌else◌, edited, deletions, AreApart}
+use Rattle.documents.proofs.Common.{keyed-bare, known-empty}
 use Rattle.documents.proofs.ChangeLaws.{Leaves, does-changed}
-use Rattle.documents.proofs.KeyedLaws.{keyed-bare}
-use Rattle.documents.proofs.KnownLaws.{known-empty}
 use Rattle.documents.proofs.PartsLaws.{Sits, cells-kept, characters-kept, pairs_of}
 use Rattle.documents.proofs.StateLaws.{length-span, stands-span, state_in, with_state}
 use Rattle.documents.proofs.ViewLaws.{IsSeen, active-is, end-is, end_in, start-is, start_in, within-is}

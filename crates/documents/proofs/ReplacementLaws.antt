@@ -8,14 +8,12 @@ use Rattle.documents.proofs.Common.{recording_of, piece_of, replace_span, replac
 use Rattle.documents.proofs.Common.{Widget, document_of, mark_of, widget_at, with_texts, without_span, Stands}
 use Rattle.documents.proofs.Common.{with_insert, Change, false, refused, insertion_offset, is_idle, tags_with, Content}
 use Rattle.documents.proofs.Common.{None, Option, Result, Some, option_map, edited, Action, [], ◌∷◌, insertion}
-use Rattle.documents.proofs.Common.{deletion, joined_text, characters}
-use Rattle.tag_table.specs.Tags.{names_of}
+use Rattle.documents.proofs.Common.{deletion, joined_text, characters, names_of, IsKnownPiece}
 use Rattle.edit_ops.specs.Removals.{with_mark}
 use Rattle.edit_ops.proofs.ReplaceLaws.{found-within}
 use Rattle.documents.proofs.ChangeLaws.{Leaves, does-changed}
 use Rattle.documents.proofs.InsertionLaws.{IsListed, IsWithin, count-made, excess-none, few_enough, limits-made}
 use Rattle.documents.proofs.InsertionLaws.{limits-refused, ready, with_tags}
-use Rattle.documents.proofs.KnownLaws.{IsKnownPiece}
 use Rattle.documents.proofs.MarkLaws.{leaves-insert}
 use Rattle.documents.proofs.NamedLaws.{keyed_piece, total-pieces}
 use Rattle.documents.proofs.PartsLaws.{Sits, cells-kept, pairs_of, sits, widget-is}

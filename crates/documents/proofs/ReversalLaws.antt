@@ -13,11 +13,10 @@ use Rattle.documents.proofs.Common.{guarded, redone-kept, redone-text, undone-ke
 use Rattle.documents.proofs.Common.{with_clipped, Document, Parts, Widget, document_of, widget_at, keys_between}
 use Rattle.documents.proofs.Common.{without_cells, Stands, action_again, edit_redo, edit_undo, group_again, group_back}
 use Rattle.documents.proofs.Common.{redone, text_back, undone, with_end, is_idle, IsWellFormedDocument, replays}
-use Rattle.documents.proofs.Common.{option_map, back-reverted, back-undone, edited, AreScalars, Change}
+use Rattle.documents.proofs.Common.{option_map, back-reverted, back-undone, edited, AreScalars, Change, known-shared}
 use Rattle.edit_ops.proofs.ReplayLaws.{back-end}
 use Rattle.documents.proofs.BackLaws.{again-back, redo-done, undo-done}
 use Rattle.documents.proofs.ChangeLaws.{Leaves, does-changed}
-use Rattle.documents.proofs.KnownLaws.{known-shared}
 use Rattle.documents.proofs.PartsLaws.{Sits}
 use Rattle.documents.proofs.ReplacementLaws.{insert-there, name-stays, sits-yet, stands-clipped}
 use Rattle.documents.proofs.StateLaws.{keys-put, stands-out, stands-put, state_in, with_log, with_state}

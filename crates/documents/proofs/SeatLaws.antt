@@ -3,9 +3,9 @@ use Rattle.documents.proofs.Common.{◌≡◌, ℕ, Bool, cond, zero, suc, ◌+�
 use Rattle.documents.proofs.Common.{drop, length, refl, sym, ap, subst, ◌∙◌, arith, remove, filter, not, Some}
 use Rattle.documents.proofs.Common.{map-append, length-append, none-some, same_Some, Named, numbers_of, is_among}
 use Rattle.documents.proofs.Common.{filter-append, filter-in, filter-out, take-found, Goes, numbers_gone, seats_left}
-use Rattle.documents.proofs.Common.{slice_get, append_assoc, names_of, Names, Option, IfSome, chars, take_all}
-use Rattle.documents.proofs.Common.{take-append-le}
-use Rattle.tcl_words.proofs.ListGrowth.{goes_on}
+use Rattle.documents.proofs.Common.{slice_get, append_assoc, Names, Option, IfSome, chars, take_all, take-append-le}
+use Rattle.documents.proofs.Common.{goes_on}
+use Rattle.name_list.specs.Names.{names_of}
 
 -- the seat of a name at a place
 pub record SeatAt (seats : List Named) (place : ℕ) (name : List ℕ) : Type 0 where

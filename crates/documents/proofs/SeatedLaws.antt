@@ -10,17 +10,14 @@ use Rattle.documents.proofs.Common.{with_own_marks, is_among, history_under, is_
 use Rattle.documents.proofs.Common.{Parts, Widget, characters, document_of, mark_of, placed, whole, widget_of}
 use Rattle.documents.proofs.Common.{HasOwnMarks, IsSeated, IsSound, Stands, is_window_name, AreLines, anchor_at}
 use Rattle.documents.proofs.Common.{IsLonger, IsWellFormedDocument, window_names, new_widget, with_peer, option_map}
-use Rattle.documents.proofs.Common.{Some, None, Option}
+use Rattle.documents.proofs.Common.{Some, None, Option, keyed-seated, known-seated, characters-keyed, AreSeats-names}
 use Rattle.name_list.specs.Names.{place_of}
 use Rattle.documents.proofs.FindLaws.{widget-among}
 use Rattle.documents.proofs.JournalLaws.{fits-under, orderly-under, with_kept}
-use Rattle.documents.proofs.KeyedLaws.{keyed-seated}
-use Rattle.documents.proofs.KnownLaws.{known-seated}
 use Rattle.documents.proofs.MarkLaws.{get-put, get-put_other, mark_of-put, mark_of-put_other, own-put, shared-alike}
 use Rattle.documents.proofs.MarkLaws.{stand-put}
-use Rattle.documents.proofs.PartsLaws.{characters-kept, characters-keyed, marks-kept, pairs_of, tags-kept}
+use Rattle.documents.proofs.PartsLaws.{characters-kept, marks-kept, pairs_of, tags-kept}
 use Rattle.documents.proofs.PlacedLaws.{marked-alike, placed-alike}
-use Rattle.documents.proofs.SlotLaws.{AreSeats-names}
 use Rattle.documents.proofs.ViewLaws.{counted}
 use Rattle.documents.proofs.WellFormedLaws.{IsWellFormedDocument-kept, fits-kept}
 use Rattle.documents.proofs.WidgetLaws.{journal_set, line_anchor, lines-anchored}

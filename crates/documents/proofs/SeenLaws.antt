@@ -2,16 +2,15 @@
 use Rattle.documents.proofs.Common.{◌≡◌, ℕ, zero, suc, ◌+◌, ◌-◌, List, [], ◌∷◌, map, sym, refl, ap, ap₂, ◌∙◌, arith}
 use Rattle.documents.proofs.Common.{slice_get, slice_index_or, usable, Shown, Tag, tag_ranges, Content, map-alike}
 use Rattle.documents.proofs.Common.{map-map, name_of_rank, seen_by, literal, Document, Parts, Widget, widget_at}
-use Rattle.documents.proofs.Common.{key_named, Stands, mark_names, usable_marks, shown_flags, Bool, Some}
-use Rattle.tag_table.specs.Tags.{names_of}
+use Rattle.documents.proofs.Common.{key_named, Stands, mark_names, usable_marks, shown_flags, Bool, Some, names_of}
+use Rattle.documents.proofs.Common.{known_standing, shifted}
 use Rattle.mark_table.specs.SharedMarks.{names_of as mark_names_of, numbers_of}
 use Rattle.search_dump.specs.Dump.{own_slot}
 use Rattle.documents.specs.Queries.{mark_seen, seen, tag_seen}
-use Rattle.documents.proofs.MarkOrderLaws.{shifted, usable-is}
+use Rattle.documents.proofs.MarkOrderLaws.{usable-is}
 use Rattle.documents.proofs.MeaningLaws.{current_bytes, insert_bytes, name-is}
 use Rattle.documents.proofs.PartsLaws.{Sits}
 use Rattle.documents.proofs.PlacedLaws.{placed-names}
-use Rattle.documents.proofs.SlotLaws.{known_standing}
 use Rattle.documents.proofs.ViewLaws.{IsSeen, end_in, flags-is, shown-is, start_in}
 use Rattle.search_dump.specs.Dump as dump
 

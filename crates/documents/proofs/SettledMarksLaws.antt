@@ -8,8 +8,7 @@ use Rattle.documents.proofs.Common.{is_same, Tells, drawn, goes_behind, moved, â
 use Rattle.documents.proofs.Common.{TextChange, IsSettled, all_carried_within, carried_within, mark_taken, AreCarried}
 use Rattle.documents.proofs.Common.{AreOthers, AreSingle, AreWatched, IsMarkChange, TellsMarks, carried, carried_all}
 use Rattle.documents.proofs.Common.{mark_at, mark_carried, watched, MarkChange, MarkKey, MarkKind, Insert, Current}
-use Rattle.documents.proofs.Common.{Shared}
-use Rattle.documents.proofs.MarksToldLaws.{same-word, words-are}
+use Rattle.documents.proofs.Common.{Shared, same-word, words-are}
 use Rattle.std.specs.List.Retain.{RetainsInTurn}
 
 -- ---- how long a text is between falling changes

@@ -5,11 +5,9 @@ use Rattle.documents.proofs.Common.{nat_tests, length-map, known_tags, AreTags, 
 use Rattle.documents.proofs.Common.{Log, SpanFits, tagged, Span, Empty, TooManyTags, with_name, spans_of, IsFront}
 use Rattle.documents.proofs.Common.{is_among, absent_slot, among_slot, spans_of-fit, Document, Parts, document_of}
 use Rattle.documents.proofs.Common.{widget_at, with_tag, Key, key_named, Stands, Change, Does, answered, refused}
-use Rattle.documents.proofs.Common.{spans_shown, add_spans, remove_spans, shown, nat_lt, if◌then◌else◌}
-use Rattle.tag_table.specs.Tags.{names_of}
+use Rattle.documents.proofs.Common.{spans_shown, add_spans, remove_spans, shown, nat_lt, if◌then◌else◌, names_of}
+use Rattle.documents.proofs.Common.{keyed-more, keyed-tagged, known-front, known-slot}
 use Rattle.documents.proofs.ChangeLaws.{Leaves, does-nothing}
-use Rattle.documents.proofs.KeyedLaws.{keyed-more, keyed-tagged}
-use Rattle.documents.proofs.KnownLaws.{known-front, known-slot}
 use Rattle.documents.proofs.PartsLaws.{Sits, cells-kept}
 use Rattle.documents.proofs.TableLaws.{characters-tagged, known-tagged, leaves-relogged, leaves-retagged, marks-tagged}
 use Rattle.documents.proofs.TableLaws.{relogged, retagged, retagged-is}

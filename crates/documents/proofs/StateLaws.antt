@@ -14,16 +14,16 @@ use Rattle.documents.proofs.Common.{Journal, KeyedCell, Parts, SharedMark, Widge
 use Rattle.documents.proofs.Common.{whole, widget_of, keys_between, keys_or, with_action, with_cells, with_text}
 use Rattle.documents.proofs.Common.{with_texts, without_cells, without_span, AreKnown, HasKnownSlots, HasOwnMarks}
 use Rattle.documents.proofs.Common.{IsSeated, Stands, Keys, keyed, keys_of, eqb-true, Bool, option_map, ◌==◌}
+use Rattle.documents.proofs.Common.{keyed-inserted, keyed-removed, keyed-shared, IsKnownPiece, known-inserted}
+use Rattle.documents.proofs.Common.{known-put, characters-keyed}
 use Rattle.text_model.specs.declared.edits.Step.TheVariants.{Insert}
 use Rattle.text_model.proofs.StepLaws.{MarksStand-after_step}
 use Rattle.edit_ops.specs.Insertions.{total}
 use Rattle.edit_ops.specs.declared.plans.Recording.{Recording}
 use Rattle.edit_ops.proofs.InsertLaws.{total-cons}
 use Rattle.text_model.proofs.RunLaws.{long as count-characters}
-use Rattle.documents.proofs.KeyedLaws.{keyed-inserted, keyed-removed, keyed-shared}
-use Rattle.documents.proofs.KnownLaws.{IsKnownPiece, known-inserted, known-put}
 use Rattle.documents.proofs.NamedLaws.{keyed_piece}
-use Rattle.documents.proofs.PartsLaws.{characters-keyed, pairs_of}
+use Rattle.documents.proofs.PartsLaws.{pairs_of}
 use Rattle.documents.proofs.PlacedLaws.{are-moved, gravity-moved, mark-there, mark_of-moved, placed-moved}
 use Rattle.text_model.specs.Content as model
 

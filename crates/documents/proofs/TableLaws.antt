@@ -4,12 +4,11 @@ use Rattle.documents.proofs.Common.{arith, All, AllByRecursion, All-head, All-ta
 use Rattle.documents.proofs.Common.{Marks, IsDocument, LimitTable, changed, with_slot, characters-with_slot}
 use Rattle.documents.proofs.Common.{length-changed, FitsText, AreAnchored, Log, SpanFits, tagged, Span, Empty, Document}
 use Rattle.documents.proofs.Common.{KeyedCell, Parts, document_of, placed, widget_of, key_pairs, keyed, pair_slots}
-use Rattle.documents.proofs.Common.{AreMarked, HasKnownSlots, HasOwnMarks, Stands, Change, answered, Contains}
-use Rattle.tag_table.specs.Tags.{names_of}
+use Rattle.documents.proofs.Common.{AreMarked, HasKnownSlots, HasOwnMarks, Stands, Change, answered, Contains, names_of}
+use Rattle.documents.proofs.Common.{known-changed}
 use Rattle.text_model.specs.Content.{characters}
 use Rattle.text_model.proofs.RunLaws.{long as counted}
 use Rattle.documents.proofs.ChangeLaws.{Leaves, does-changed}
-use Rattle.documents.proofs.KnownLaws.{known-changed}
 use Rattle.std.specs.FinMap as finite
 
 -- the parts with another table and another store

@@ -1,34 +1,28 @@
 -- A document after its tags are put in another order or deleted.
 use Rattle.documents.proofs.Common.{◌≡◌, ℕ, ◌≤◌, Bool, true, false, List, [], ◌∷◌, Option, Err, Ok, cond, filter}
-use Rattle.documents.proofs.Common.{length, map, refl, sym, ap, subst, ◌∙◌, arith, length-map, map-map, AreTags, Tag}
-use Rattle.documents.proofs.Common.{Tags, Cell, Content, LimitTable, Log, cell_without, cleared, Empty, NoSuchTag}
-use Rattle.documents.proofs.Common.{slots_deleted, tags_left, stays, Document, Parts, document_of, Stands, answered}
-use Rattle.documents.proofs.Common.{reordered, tag_delete, without_tags}
-use Rattle.tag_table.specs.Tags.{names_of}
+use Rattle.documents.proofs.Common.{length, map, refl, sym, ap, subst, ◌∙◌, arith, map-map, AreTags, Tag, Tags, Cell}
+use Rattle.documents.proofs.Common.{Content, LimitTable, Log, cell_without, cleared, Empty, NoSuchTag, slots_deleted}
+use Rattle.documents.proofs.Common.{tags_left, stays, Document, Parts, document_of, Stands, answered, reordered}
+use Rattle.documents.proofs.Common.{tag_delete, without_tags, IsOrdered, IsUnknown, Order, names_of, keyed-deleted}
+use Rattle.documents.proofs.Common.{known-deleted, names_left, keyed-reordered, known-reordered}
 use Rattle.documents.proofs.ChangeLaws.{Leaves, does-left, stands-same}
-use Rattle.documents.proofs.ClearedLaws.{keyed-deleted, known-deleted, names_left}
-use Rattle.documents.proofs.KeyedLaws.{keyed-reordered}
-use Rattle.documents.proofs.KnownLaws.{known-reordered}
-use Rattle.documents.proofs.OrderLaws.{IsOrdered, Order}
-use Rattle.documents.proofs.ReorderLaws.{IsUnknown, reordered-made, reordered-unknown, unknown_at}
+use Rattle.documents.proofs.ReorderLaws.{reordered-made, reordered-unknown, unknown_at}
 use Rattle.documents.proofs.TableLaws.{leaves-relogged, leaves-retagged, relogged, retagged, retagged-is}
 use Rattle.tag_table.specs.declared.faults.NoSuchTag as table_fault
 
 -- ---- another order
 
-pub leaves-ordered : (limits : LimitTable) (old : Parts) (new : Tags) (document : Document) (position : ℕ) (order : Order)
-    (word : List ℕ) (other : Option (List ℕ)) → Stands old document
-    → IsOrdered order word other old.tags.tags new.tags → AreTags new → new.limit ≡ old.tags.limit →
-    length (order (names_of old.tags.tags) word other) ≡ length (names_of old.tags.tags)
+pub leaves-ordered : (limits : LimitTable) (old : Parts) (new : Tags) (document : Document) (position : ℕ)
+    (order : Order) (word : List ℕ) (other : Option (List ℕ)) → Stands old document
+    → IsOrdered order word other old.tags.tags new.tags → AreTags new → new.limit ≡ old.tags.limit
     → Leaves limits (record old { tags = new }) document (Ok Empty) (reordered document position order (word, other))
-leaves-ordered limits old new document position order word other stands ordered sound limit many =
+leaves-ordered limits old new document position order word other stands ordered sound limit =
     let seats = old.seats.entries in
     let kept = stands.sound.kept in
     let cells = keyed-reordered seats old.tags.tags new.tags old.content.cells kept.seats.names_apart
     kept.tags.names_apart sound.names_apart ordered.slots in
     let tags : document.tags ≡ names_of old.tags.tags = ap (λ (d : Document). d.tags) (sym stands.is) in
-    let count : length new.tags ≡ length old.tags.tags = sym (length-map new.tags (λ (tag : Tag). tag.name))
-    ∙ ap length ordered.names ∙ many ∙ length-map old.tags.tags (λ (tag : Tag). tag.name) in
+    let many = ordered.many in
     let whole = retagged-is old new old.content (document_of old).cells refl cells
     ∙ ap (λ (d : Document). record d { tags = names_of new.tags }) stands.is in
     leaves-retagged limits old new old.content document (reordered document position order (word, other)) stands
@@ -39,12 +33,12 @@ leaves-ordered limits old new document position order word other stands ordered 
       marks = refl;
       same = refl;
     })
-    (λ few. omega (arith, count, few)) (reordered-made document position order word other old.tags.tags new.tags tags ordered
-    ∙ ap (λ (d : Document). answered d Empty) (sym whole))
+    (λ few. omega (arith, many, few)) (reordered-made document position order word other old.tags.tags new.tags tags
+    ordered ∙ ap (λ (d : Document). answered d Empty) (sym whole))
 
 -- one that isn't known
-pub does-unordered : (limits : LimitTable) (old : Parts) (new : Tags) (document : Document) (position : ℕ) (order : Order)
-    (word : List ℕ) (other : Option (List ℕ)) (fault : table_fault.NoSuchTag) → Stands old document
+pub does-unordered : (limits : LimitTable) (old : Parts) (new : Tags) (document : Document) (position : ℕ)
+    (order : Order) (word : List ℕ) (other : Option (List ℕ)) (fault : table_fault.NoSuchTag) → Stands old document
     → new ≡ old.tags → IsUnknown word other old.tags.tags fault
     → Leaves limits (record old { tags = new }) document (Err (NoSuchTag (unknown_at position fault)))
     (reordered document position order (word, other))
@@ -70,7 +64,8 @@ filter-shorter p (x ∷ xs) =
     ]
 
 pub leaves-deleted : {old : Parts} {new : Tags} {content : Content} {log : Log} {document : Document} {slots : List ℕ}
-    (limits : LimitTable) (names : List (List ℕ)) → Stands old document → AreTags new
+    (limits : LimitTable) (names : List (List ℕ)) → Stands old document
+    → (AreTags old.tags → AreTags new)
     → new ≡ record old.tags { tags = tags_left names old.tags.tags } → slots ≡ slots_deleted old.tags.tags names →
     content ≡ cleared slots old.content → log ≡ old.journal.log
     → Leaves limits (relogged (retagged old new content) log) document (Ok Empty) (tag_delete document names)
@@ -96,7 +91,7 @@ leaves-deleted {old} {new} {content} {log} {document} {slots} limits names stand
     old.tags.tags in
     let done = leaves-retagged limits old left store document (tag_delete document names) stands
     (record {
-      tags = subst AreTags table sound;
+      tags = subst AreTags table (sound kept.tags);
       limit = refl;
       known = known-deleted seats old.tags names old.content.cells kept.seats kept.tags kept.known;
       marks = refl;

@@ -2,13 +2,11 @@
 use Rattle.documents.proofs.Common.{◌≡◌, ℕ, zero, suc, ◌+◌, ◌-◌, ◌<◌, ◌≤◌, Bool, true, false, cond, List, [], ◌∷◌}
 use Rattle.documents.proofs.Common.{length, drop, refl, sym, ap, ◌∙◌, arith, slice_get, slice_range, if◌then◌else◌}
 use Rattle.documents.proofs.Common.{get_or-drop, get_or-take, length-drop, length-map, length-take}
-use Rattle.documents.proofs.Common.{get_or_from_slice_get, none-some, known_tags, Tag, Cell, flag_at, Content, Slots}
-use Rattle.documents.proofs.Common.{flags, slot_sets, own_slot, is_among, Document, KeyedCell, Parts, Widget, widget_at}
+use Rattle.documents.proofs.Common.{get_or_from_slice_get, none-some, known_tags, Tag, Cell, Content, Slots, flags}
+use Rattle.documents.proofs.Common.{slot_sets, own_slot, is_among, Document, KeyedCell, Parts, Widget, widget_at}
 use Rattle.documents.proofs.Common.{key_named, Stands, tags_on, shown, shown_flags, view_end, view_start, None, Some}
-use Rattle.documents.proofs.Common.{filter}
-use Rattle.tag_table.specs.Tags.{names_of}
+use Rattle.documents.proofs.Common.{filter, names_of, known_standing, flag_at}
 use Rattle.documents.specs.Tags.{flags_of}
-use Rattle.documents.proofs.SlotLaws.{known_standing}
 use Rattle.documents.proofs.SpanLaws.{slot_known, slot_unknown}
 use Rattle.documents.proofs.ViewLaws.{IsSeen, flags-is}
 use Rattle.std.specs.FinSet as set

@@ -7,9 +7,8 @@ use Rattle.documents.proofs.Common.{AreMarks, SharedMarks, AreAnchored, cell_wit
 use Rattle.documents.proofs.Common.{is_among, Document, Journal, Parts, Widget, document_of, mark_of, widget_of}
 use Rattle.documents.proofs.Common.{AreSeats, HasKnownSlots, HasOwnMarks, IsSeated, IsSound, Stands, is_window_name}
 use Rattle.documents.proofs.Common.{TagSlot, key_pairs, keyed, numbers_gone, seats_left, IsWellFormedDocument, is_kept}
+use Rattle.documents.proofs.Common.{AreSeats-left, gone-apart, gone-low, keyed-unseated, known-unseated, map-filter}
 use Rattle.command_effects.specs.Edits.{without_widgets}
-use Rattle.documents.proofs.ClearedLaws.{AreSeats-left, gone-apart, gone-low, keyed-unseated, known-unseated}
-use Rattle.documents.proofs.ClearedLaws.{map-filter}
 use Rattle.documents.proofs.MarkLaws.{get-take_other, shared-number, stand-taken}
 use Rattle.documents.proofs.PartsLaws.{marks-kept, tags-kept}
 use Rattle.documents.proofs.PlacedLaws.{AreAlike, marked-alike, placed-alike}

@@ -6,8 +6,7 @@ use Rattle.documents.proofs.Common.{drop-drop, drop-take, get_or_default, length
 use Rattle.documents.proofs.Common.{numbers_of, Cell, Content, flags, IsLineStart, IsView, known_tags, Anchors}
 use Rattle.documents.proofs.Common.{is-start, text-end-begins, Document, KeyedCell, Parts, Widget, anchors_at, whole}
 use Rattle.documents.proofs.Common.{widget_at, Key, key_named, Stands, is_idle, shown, shown_flags, view_end}
-use Rattle.documents.proofs.Common.{view_start, length-drop, Bool, ◌||◌, ◌==◌, None, Option, Some, get_or}
-use Rattle.documents.proofs.KeyedLaws.{keyed-flags}
+use Rattle.documents.proofs.Common.{view_start, length-drop, Bool, ◌||◌, ◌==◌, None, Option, Some, get_or, keyed-flags}
 use Rattle.documents.proofs.PartsLaws.{Sits, cells-kept, characters-kept, sits}
 use Rattle.std.specs.FinSet as set
 use Rattle.text_model.specs.Content as model
@@ -100,11 +99,15 @@ module _ (parts : Parts) (document : Document) (place slot : ℕ) (stands : Stan
       let long : length text ≡ length parts.content.cells = counted parts.content in
       let ends : IsLineStart text (length parts.content.cells) = subst (IsLineStart text) long
       (is-start text (length text) (text-end-begins text stands.sound.kept.text.newline)) in
+      let behind = last-line text (anchors_at parts.journal slot).end (length parts.content.cells) sits.anchored.end ends
+      in
       record {
         ordered = subst (λ n. start_in parts slot ≤ unwrap_or (anchors_at parts.journal slot).end n) long
             sits.anchored.ordered;
+        fits = let within = behind.within in let short = stands.sound.kept.short in
+            omega (arith, within, long, short);
         first = first-line text (anchors_at parts.journal slot).start sits.anchored.start;
-        behind = last-line text (anchors_at parts.journal slot).end (length parts.content.cells) sits.anchored.end ends;
+        behind = behind;
       }
 
   pub ordered-is : start_in parts slot ≤ end_in parts slot

@@ -3,18 +3,17 @@ use Rattle.documents.proofs.Common.{◌≡◌, ℕ, suc, ◌+◌, ◌*◌, ◌�
 use Rattle.documents.proofs.Common.{subst, ◌∙◌, arith, inl, inr, false_from_ne_true, length-map, bytes_eq-Decides}
 use Rattle.documents.proofs.Common.{AllByRecursion, slice_get, if◌then◌else◌, IfSome, unwrap_or, Cell, IsDocument}
 use Rattle.documents.proofs.Common.{LimitTable, IsLineStart, Named, Tag, Tags, AreTags, FitsText, AreAnchored, is_same}
-use Rattle.documents.proofs.Common.{is_among, AreApart-head, AreApart-tail, found_tag, Key, keyed, Document, Parts}
-use Rattle.documents.proofs.Common.{Widget, anchors_at, characters, document_of, whole, widget_of, IsSeated, IsSound}
-use Rattle.documents.proofs.Common.{is_window_name, belongs, HasItsKeys, IsPlaced, IsWellFormedDocument, window_names}
-use Rattle.documents.proofs.Common.{◌&&◌, not, map, None, Some}
-use Rattle.tag_table.specs.Tags.{names_of}
+use Rattle.documents.proofs.Common.{is_among, found_tag, Key, keyed, Document, Parts, Widget, anchors_at, characters}
+use Rattle.documents.proofs.Common.{document_of, whole, widget_of, IsSeated, IsSound, is_window_name, belongs}
+use Rattle.documents.proofs.Common.{HasItsKeys, IsPlaced, IsWellFormedDocument, window_names, ◌&&◌, not, map, None}
+use Rattle.documents.proofs.Common.{Some, names_of, is_key_of, keys_of-belongs, characters-keyed, length-keyed}
+use Rattle.command_effects.proofs.LeftLaws.{AreApart-head, AreApart-tail}
 use Rattle.name_list.specs.Names.{AreApart, names_of as names_of_seats}
 use Rattle.std.specs.List.{IsDistinct}
 use Rattle.mark_table.specs.SharedMarks.{names_of as names_of_marks}
 use Rattle.documents.specs.Documents.{sel}
-use Rattle.documents.proofs.BridgeLaws.{is_key_of, keys_of-belongs}
 use Rattle.documents.proofs.PlacedLaws.{offset-within, placed-length, placed-names, placed-within, placed-words}
-use Rattle.documents.proofs.PartsLaws.{characters-keyed, length-keyed, pairs_of}
+use Rattle.documents.proofs.PartsLaws.{pairs_of}
 use Rattle.std.specs.FinMap as finite
 use Rattle.text_model.specs.Content as model
 

@@ -7,13 +7,15 @@ use Rattle.documents.proofs.Common.{lines, LimitTable, FitsText, limit_of, Kept,
 use Rattle.documents.proofs.Common.{is_same, Empty, history_under, is_behind, Settings, Document, Journal, Parts}
 use Rattle.documents.proofs.Common.{Widget, anchors_at, characters, document_of, whole, widget_at, widget_of, IsSeated}
 use Rattle.documents.proofs.Common.{Stands, answered, AreLines, IsLine, anchor_at, settings_of, widget_set}
-use Rattle.documents.proofs.Common.{with_settings, window_names, filter, not, option_map, Option, None, Some, names_of}
+use Rattle.documents.proofs.Common.{with_settings, window_names, filter, not, option_map, Option, None, Some}
+use Rattle.documents.proofs.Common.{characters-keyed}
+use Rattle.name_list.specs.Names.{names_of}
 use Rattle.text_index.proofs.ViewLaws.{line_of-within}
 use Rattle.text_model.proofs.LineLaws.{line_start-le, lines-cons, lines-le-length}
 use Rattle.documents.proofs.ChangeLaws.{Leaves, does-changed}
 use Rattle.documents.proofs.JournalLaws.{fits-under, orderly-under, with_kept}
 use Rattle.documents.proofs.MarkLaws.{slot-there, widgets-put}
-use Rattle.documents.proofs.PartsLaws.{Sits, characters-kept, characters-keyed, pairs_of, widget-is}
+use Rattle.documents.proofs.PartsLaws.{Sits, characters-kept, pairs_of, widget-is}
 use Rattle.documents.proofs.SeatLaws.{seat-named}
 use Rattle.documents.proofs.ViewLaws.{counted}
 use Rattle.documents.proofs.WellFormedLaws.{windows-kept}

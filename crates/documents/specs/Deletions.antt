@@ -15,7 +15,8 @@ use Rattle.documents.specs.Promise.{Change, edited}
 use Rattle.documents.specs.Ranges.{spans_shown}
 use Rattle.documents.specs.Texts.{joined_text, keyed_text, tags_with, within_limits}
 use Rattle.documents.specs.Views.{view_end, view_start}
-use Rattle.documents.specs.Documents.{Document, Widget, characters}
+use Rattle.documents.specs.Documents.{Document, Widget}
+use Rattle.reports.specs.Cells.{characters}
 
 -- ---- delete
 

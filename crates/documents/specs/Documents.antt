@@ -13,8 +13,8 @@ use Rattle.tag_table.specs.Tags.{Tags, names_of}
 use Rattle.mark_table.specs.SharedMarks.{Mark, SharedMarks}
 use Rattle.command_effects.specs.Edits.{new_mark}
 use Rattle.command_effects.specs.declared.settings.DocumentSettings.{DocumentSettings}
-use Rattle.documents.specs.Keys.{keyed, key_pairs}
-pub use Rattle.documents.specs.Keys.{KeyedCell}
+use Rattle.reports.specs.Cells.{KeyedCell, keyed}
+use Rattle.reports.specs.Keys.{key_pairs}
 
 -- a widget, which shows the document from its start anchor, if it has one, to its end anchor
 pub record Widget : Type 0 where
@@ -41,9 +41,6 @@ pub record Document : Type 0 where
   pub undo : Bool
   pub most_undo : ℤ
   pub separators : Bool
-
-abbrev pub characters : List KeyedCell → List ℕ
-characters cells = map (λ (cell : KeyedCell). cell.character) cells
 
 -- ---- how it is kept
 

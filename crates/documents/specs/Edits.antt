@@ -1,7 +1,6 @@
 -- What an edit makes of a document: of its cells, of the places in it, and of what is kept of edits.
-use Rattle.std.specs.Prelude.{ℕ, zero, suc, ◌+◌, ◌==◌, Bool, true, false, List, [], ◌∷◌, length, map, slice_get}
-use Rattle.std.specs.Prelude.{slice_range, Option, None, Some, option_map, if◌then◌else◌}
-use Rattle.std.specs.FinSet as set
+use Rattle.std.specs.Prelude.{ℕ, ◌+◌, ◌==◌, true, false, List, [], ◌∷◌, length, map}
+use Rattle.std.specs.Prelude.{slice_range, Option, option_map, if◌then◌else◌}
 use Rattle.text_model.specs.Splices.{inserted, removed, changed, moved, drawn}
 use Rattle.undo_stack.specs.History.{noted, limit_of}
 use Rattle.undo_stack.specs.Modified.{counted_new}
@@ -9,27 +8,14 @@ use Rattle.undo_stack.specs.declared.actions.Action.{Action}
 use Rattle.undo_stack.specs.declared.actions.EditKind.{EditKind}
 use Rattle.edit_ops.specs.Anchors.{anchor_moved, anchors_removed}
 use Rattle.edit_ops.specs.declared.spans.Span.{Span}
-use Rattle.documents.specs.Keys.{Key, Keys, set_key}
-use Rattle.documents.specs.Documents.{Document, Widget, SharedMark, KeyedCell, characters}
+use Rattle.reports.specs.Keys.{Keys}
+use Rattle.documents.specs.Documents.{Document, Widget, SharedMark}
+use Rattle.reports.specs.Cells.{KeyedCell, bare, characters, keys_between, keys_or}
 
 -- a text to be put in, with the keys of each of its characters where it has a tag list
 pub record KeyedText : Type 0 where
   pub text : List ℕ
   pub keys : Option Keys
-
--- The keys that text without a tag list gets: those that both its neighbours have, and none at the start.
-abbrev pub common_keys : Option KeyedCell → Option KeyedCell → Keys
-common_keys (Some left) (Some right) = set.intersection left.keys right.keys
-common_keys (Some left) None = set.empty
-common_keys None right = set.empty
-
-abbrev pub keys_between : List KeyedCell → ℕ → Keys
-keys_between cells zero = set.empty
-keys_between cells (suc before) = common_keys (slice_get cells before) (slice_get cells (suc before))
-
-abbrev pub keys_or : Option Keys → Keys → Keys
-keys_or (Some keys) common = keys
-keys_or None common = common
 
 -- a widget after so many cells are put in at an offset: its anchors and its own marks move along
 abbrev pub widget_moved : ℕ → ℕ → Widget → Widget
@@ -107,17 +93,5 @@ abbrev pub without_spans : EditKind → List Span → Document → Document
 without_spans kind [] document = document
 without_spans kind (span ∷ spans) document = without_spans kind spans (without_span kind span.from span.to document)
 
--- the cell at an offset loses all its keys
-abbrev pub bare : KeyedCell → KeyedCell
-bare cell = record cell { keys = set.empty }
-
 abbrev pub with_bare : ℕ → Document → Document
 with_bare at document = record document { cells = changed bare at (at + 1) document.cells }
-
--- a key is put on the cells of spans, or taken off them
-abbrev pub with_key : Key → Bool → KeyedCell → KeyedCell
-with_key key on cell = record cell { keys = set_key key on cell.keys }
-
-abbrev pub with_tag : Key → Bool → List Span → List KeyedCell → List KeyedCell
-with_tag key on [] cells = cells
-with_tag key on (span ∷ spans) cells = with_tag key on spans (changed (with_key key on) span.from span.to cells)

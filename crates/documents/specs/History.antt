@@ -9,7 +9,8 @@ use Rattle.edit_ops.specs.Reversals.{redo_end, undo_end}
 use Rattle.command_effects.specs.declared.answers.Answer.TheVariants.{Empty}
 use Rattle.command_effects.specs.declared.answers.Fault.TheVariants.{NothingToRedo, NothingToUndo}
 use Rattle.documents.specs.Deletions.{with_clipped}
-use Rattle.documents.specs.Edits.{keys_between, with_cells, without_cells}
+use Rattle.reports.specs.Cells.{keys_between}
+use Rattle.documents.specs.Edits.{with_cells, without_cells}
 use Rattle.documents.specs.Promise.{Change, answered, edited, refused, unless_idle}
 use Rattle.documents.specs.Documents.{Document, Widget}
 

@@ -1,22 +1,20 @@
 -- What holds of how a document is kept, at any time.
 use Rattle.std.specs.Prelude.{◌≡◌, ℕ, ◌+◌, ◌*◌, ◌<◌, ◌≤◌, ◌==◌, Bool, true, false, List, [], ◌∷◌, length, is_some}
-use Rattle.std.specs.Prelude.{slice_get, Contains, Some, option_map}
+use Rattle.std.specs.Prelude.{Some, option_map}
 use Rattle.std.specs.FinMap as finite
-use Rattle.std.specs.FinSet as set
 use Rattle.std.specs.List.{All, AllByRecursion}
-use Rattle.text_model.specs.declared.cells.Cell.{Cell}
 use Rattle.text_model.specs.LimitTable.{most_chars, most_marks, most_tags, most_widgets}
 use Rattle.text_model.specs.declared.places.Place.{Place}
-use Rattle.text_model.specs.Content.{Content, Marks, Slots, characters}
+use Rattle.text_model.specs.Content.{Content, Marks, characters}
 use Rattle.text_model.specs.Documents.{IsDocument, MarksStand}
-use Rattle.name_list.specs.Names.{AreApart, Named, Names, names_of, numbers_of}
+use Rattle.name_list.specs.Names.{Named, Names}
 use Rattle.mark_table.specs.SharedMarks.{AreMarks, Mark, SharedMarks}
-use Rattle.tag_table.specs.Tags.{Tag, Tags, AreTags}
+use Rattle.tag_table.specs.Tags.{Tags, AreTags}
 use Rattle.undo_stack.specs.History.{limit_of}
 use Rattle.edit_ops.specs.Anchors.{AreAnchored}
 use Rattle.edit_ops.specs.declared.anchors.Anchors.{Anchors}
 use Rattle.command_effects.specs.Words.{is_own}
-use Rattle.documents.specs.Keys.{key_pairs, pair_slots}
+use Rattle.reports.specs.Slots.{AreSeats, HasKnownSlots}
 use Rattle.documents.specs.Documents.{Document, Journal, Parts, document_of}
 
 -- a dot and at least one more character
@@ -24,20 +22,6 @@ abbrev pub is_window_name : List ℕ → Bool
 is_window_name [] = false
 is_window_name (character ∷ []) = false
 is_window_name (character ∷ other ∷ others) = character == 46
-
--- names are distinct, and so are numbers, each a slot of a widget's own
-pub record AreSeats (seats : List Named) : Type 0 where
-  pub names_apart : AreApart (names_of seats)
-  pub numbers_apart : AreApart (numbers_of seats)
-  pub below : (seat number : ℕ) → slice_get (numbers_of seats) seat ≡ Some number → number < most_widgets
-
--- every slot is that of a seat or of a tag
-abbrev pub AreKnown : List Named → List Tag → Slots → Type 0
-AreKnown seats tags slots =
-    (slot : ℕ) → set.contains slots slot ≡ true → Contains (pair_slots (key_pairs seats tags)) slot
-
-abbrev pub HasKnownSlots : List Named → List Tag → Cell → Type 0
-HasKnownSlots seats tags cell = AreKnown seats tags cell.tags
 
 -- the two marks of a widget's own stand in the store
 pub record HasOwnMarks (places : Marks) (seat : Named) : Type 0 where

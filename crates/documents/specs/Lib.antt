@@ -5,7 +5,7 @@ pub mod History
 pub mod Indices
 pub mod Inside
 pub mod Kept
-pub mod Keys
+pub mod Listing
 pub mod Marks
 pub mod MarksListed
 pub mod MarksTold
@@ -16,8 +16,6 @@ pub mod Queries
 pub mod Ranges
 pub mod Seats
 pub mod Tags
-pub mod TagsGone
-pub mod TagsTold
 pub mod Texts
 pub mod Told
 pub mod Views

@@ -1,8 +1,6 @@
 -- Commands on marks.
 use Rattle.std.specs.Prelude.{ℕ, ◌+◌, ◌-◌, min, nat_le, List, [], ◌∷◌, ◌++◌, length, map, filter, find, Option, None}
 use Rattle.std.specs.Prelude.{Some, option_map, if◌then◌else◌}
-use Rattle.mark_table.specs.declared.order.Origin.{Origin}
-use Rattle.mark_table.specs.declared.order.Origin.TheVariants.{Mark, Place as Offset}
 use Rattle.mark_table.specs.declared.order.Shown.{Shown}
 use Rattle.text_index.specs.Views.{shared_place}
 use Rattle.text_model.specs.declared.places.Gravity.TheVariants.{Right}
@@ -82,12 +80,6 @@ mark_unset document names =
     answered (record document { marks = filter (λ (mark : SharedMark). is_left names mark.name) document.marks }) Empty
 
 -- ---- the order of marks
-
--- From where a mark is asked for: a place of a view, which begins at a start, becomes an offset of the text, up to the
--- most that a machine counts.
-abbrev pub origin_in : ℕ → ℕ → Origin → Origin
-origin_in most start (Mark mark) = Mark mark
-origin_in most start (Offset place) = Offset (min (place + start) most)
 
 -- a mark that the widget shows, by its number among all marks
 abbrev pub shown_at : ℕ → Option ℕ → List Shown

@@ -7,16 +7,17 @@ use Rattle.text_model.specs.declared.places.Place.{Place}
 use Rattle.edit_ops.specs.Told.{AreFalling, Tells}
 use Rattle.edit_ops.specs.declared.changes.TextChange.{TextChange}
 use Rattle.command_effects.specs.Words.{is_among, is_same, literal}
-use Rattle.documents.specs.Documents.{characters, Document, SharedMark, Widget}
+use Rattle.reports.specs.Cells.{characters}
+use Rattle.documents.specs.Documents.{Document, SharedMark, Widget}
 use Rattle.documents.specs.Promise.{Change}
-use Rattle.documents.specs.Told.{TellsCells}
+use Rattle.reports.specs.Told.{TellsCells}
 use Rattle.documents.specs.WellFormed.{window_names}
 use Rattle.documents.specs.Widgets.{widget_named}
 use Rattle.documents.specs.declared.mark_lists.MarkChange.{MarkChange}
 use Rattle.documents.specs.declared.mark_lists.MarkKey.{MarkKey}
 use Rattle.documents.specs.declared.mark_lists.MarkKind.{MarkKind}
 use Rattle.documents.specs.declared.mark_lists.MarkKind.TheVariants.{Insert, Current, Shared}
-use Rattle.documents.specs.declared.told.EditTold.{EditTold}
+use Rattle.reports.specs.declared.told.EditTold.{EditTold}
 
 -- the marks of a document: two of each widget, by the widget's name, and the shared ones, by their own
 abbrev pub place_of_kind : MarkKind → List ℕ → Document → Option Place

@@ -6,7 +6,8 @@ use Rattle.index_grammar.specs.declared.faults.IndexFault.{IndexFault}
 use Rattle.text_index.specs.Views.{own_place, shared_place}
 use Rattle.text_index.specs.Words.{is_word}
 use Rattle.text_index.specs.Meanings.{Meanings, word_value}
-use Rattle.documents.specs.Keys.{Key, key_named}
+use Rattle.reports.specs.Keys.{key_named}
+use Rattle.reports.specs.declared.keys.Key.{Key}
 use Rattle.command_effects.specs.Words.{is_same, literal}
 use Rattle.documents.specs.Documents.{Document, Widget, SharedMark}
 use Rattle.documents.specs.Views.{view_start, view_end, shown, shown_flags}

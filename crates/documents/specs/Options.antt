@@ -5,7 +5,8 @@ use Rattle.command_effects.specs.declared.settings.DocumentSettings.{DocumentSet
 use Rattle.command_effects.specs.declared.settings.Settings.{Settings}
 use Rattle.command_effects.specs.Settings.{history_under}
 use Rattle.documents.specs.Marks.{with_widget}
-use Rattle.documents.specs.Documents.{Document, Widget, characters}
+use Rattle.documents.specs.Documents.{Document, Widget}
+use Rattle.reports.specs.Cells.{characters}
 
 -- the number of the line that begins at an anchor, counted from 1
 abbrev pub line_at : Document → ℕ → ℕ

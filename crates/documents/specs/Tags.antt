@@ -1,21 +1,19 @@
 -- Commands on tags.
-use Rattle.std.specs.Prelude.{ℕ, ◌+◌, nat_lt, Bool, true, false, not, ◌||◌, List, [], ◌∷◌, ◌++◌, length, map, filter}
-use Rattle.std.specs.Prelude.{Option, None, Some, if◌then◌else◌}
-use Rattle.std.specs.FinSet as set
-use Rattle.name_list.specs.Moves.{without, put_behind, put_before}
+use Rattle.std.specs.Prelude.{ℕ, ◌+◌, nat_lt, Bool, true, false, List, [], length, map, filter, Option, None}
+use Rattle.std.specs.Prelude.{Some, if◌then◌else◌}
+pub use Rattle.tag_table.specs.Priority.{Order, lowered, raised}
 use Rattle.text_model.specs.Changes.{flag_at}
 use Rattle.text_model.specs.LimitTable.{LimitTable}
 use Rattle.command_effects.specs.declared.answers.Answer.TheVariants.{Empty}
 use Rattle.command_effects.specs.declared.answers.Fault.TheVariants.{NoSuchTag, TooManyTags}
-use Rattle.documents.specs.Edits.{with_tag}
-use Rattle.documents.specs.Keys.{Key}
+use Rattle.reports.specs.Cells.{with_tag, without_tags}
 use Rattle.command_effects.specs.Lists.{with_name}
 use Rattle.documents.specs.Names.{key_of}
 use Rattle.documents.specs.Promise.{Change, refused, answered}
 use Rattle.documents.specs.Ranges.{spans_shown}
 use Rattle.documents.specs.Views.{shown_flags}
-use Rattle.command_effects.specs.Words.{is_same, is_among}
-use Rattle.documents.specs.Documents.{Document, Widget, KeyedCell}
+use Rattle.command_effects.specs.Words.{is_among}
+use Rattle.documents.specs.Documents.{Document, Widget}
 use Rattle.command_effects.specs.Tagging.{stays}
 
 -- ---- on characters
@@ -35,12 +33,6 @@ remove_spans document widget name places =
     answered (if is_among name document.tags then record document {
       cells = with_tag (key_of widget name) false (spans_shown document widget places) document.cells;
     } else document) Empty
-
-abbrev pub key_stays : List (List ℕ) → Key → Bool
-key_stays names key = key.selects || not (is_among key.name names)
-
-abbrev pub without_tags : List (List ℕ) → KeyedCell → KeyedCell
-without_tags names cell = record cell { keys = set.retain cell.keys (key_stays names) }
 
 -- `W tag delete T ?T ..?`
 abbrev pub tag_delete : Document → List (List ℕ) → Change
@@ -64,25 +56,12 @@ flags_of document widget name =
 
 -- ---- priority
 
--- the tags with one highest, or just above another
-abbrev pub raised : List (List ℕ) → List ℕ → Option (List ℕ) → List (List ℕ)
-raised tags name None = without (is_same name) tags ++ name ∷ []
-raised tags name (Some other) =
-    if is_same name other then tags else put_behind (is_same other) name (without (is_same name) tags)
-
--- the tags with one lowest, or just below another
-abbrev pub lowered : List (List ℕ) → List ℕ → Option (List ℕ) → List (List ℕ)
-lowered tags name None = name ∷ without (is_same name) tags
-lowered tags name (Some other) =
-    if is_same name other then tags else put_before (is_same other) name (without (is_same name) tags)
-
 -- a tag, and another where there is one, have to be known
 abbrev pub known_or : Document → ℕ → List ℕ → Change → Change
 known_or document position name change =
     if is_among name document.tags then change else refused document (NoSuchTag position)
 
-abbrev pub reordered : Document → ℕ → (List (List ℕ) → List ℕ → Option (List ℕ) → List (List ℕ)) →
-    List ℕ × Option (List ℕ) → Change
+abbrev pub reordered : Document → ℕ → Order → List ℕ × Option (List ℕ) → Change
 reordered document position order (name, None) =
     known_or document position name (answered (record document { tags = order document.tags name None }) Empty)
 reordered document position order (name, Some other) =

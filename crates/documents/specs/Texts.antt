@@ -6,7 +6,7 @@ use Rattle.undo_stack.specs.declared.actions.EditKind.TheVariants as kind
 use Rattle.edit_ops.specs.Told.{insertion}
 use Rattle.command_effects.specs.declared.answers.Fault.TheVariants.{TooManyTags, TextTooLong}
 use Rattle.documents.specs.Edits.{KeyedText, with_texts}
-use Rattle.documents.specs.Keys.{keys_named}
+use Rattle.reports.specs.Keys.{keys_named}
 use Rattle.command_effects.specs.Lists.{Pair, all_names, total, with_names}
 use Rattle.documents.specs.Promise.{Change, refused, edited}
 use Rattle.documents.specs.Views.{view_start, shown}

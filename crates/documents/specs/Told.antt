@@ -1,24 +1,12 @@
 -- What is told of a command: the changes of the text and of tags that it makes, unless it is refused.
-use Rattle.std.specs.Prelude.{◌≡◌, Bool, true, List, length, Result, Ok, Err, IfOk, is_ok}
-use Rattle.std.specs.List.{All}
-use Rattle.undo_stack.specs.declared.actions.Action.{Action}
-use Rattle.edit_ops.specs.Told.{AreExact, Tells}
+use Rattle.std.specs.Prelude.{◌≡◌, Bool, true, Result, Ok, Err, IfOk, is_ok}
 use Rattle.command_effects.specs.declared.answers.Answer.{Answer}
 use Rattle.command_effects.specs.declared.answers.Answer.TheVariants.{Empty}
 use Rattle.command_effects.specs.declared.answers.Fault.{Fault}
-use Rattle.documents.specs.Documents.{Document, KeyedCell, characters}
+use Rattle.documents.specs.Documents.{Document}
 use Rattle.documents.specs.Promise.{Change}
-use Rattle.documents.specs.TagsTold.{after_changes, IsTagRun, TellsTags}
-use Rattle.documents.specs.declared.told.EditTold.{EditTold}
-
--- The characters of a text become others by edits of the text: the changes of the text are exactly what the edits do,
--- and make the new text of the old one; those of tags make the new characters of what they leave, and each is a whole
--- run of the characters where its tag differs.
-pub record TellsCells (edits : List Action) (old new : List KeyedCell) (told : EditTold) : Type 0 where
-  pub text : Tells told.changes (characters old) (characters new)
-  pub exact : AreExact edits (length old) told.changes
-  pub tags : TellsTags told.tags (after_changes told.changes old) new
-  pub runs : All (IsTagRun (after_changes told.changes old) new) told.tags
+use Rattle.reports.specs.Told.{TellsCells}
+use Rattle.reports.specs.declared.told.EditTold.{EditTold}
 
 -- where a command is answered, this is what it made of the text
 abbrev pub Foretells : Document → Change → EditTold → Type 0

@@ -1,8 +1,9 @@
 -- The part of a document that a widget shows.
 use Rattle.std.specs.Prelude.{ℕ, Bool, ◌||◌, ◌==◌, List, length, map, slice_range, unwrap_or}
 use Rattle.std.specs.FinSet as set
-use Rattle.documents.specs.Keys.{Key}
-use Rattle.documents.specs.Documents.{Widget, Document, KeyedCell, characters}
+use Rattle.reports.specs.declared.keys.Key.{Key}
+use Rattle.documents.specs.Documents.{Widget, Document}
+use Rattle.reports.specs.Cells.{KeyedCell, characters}
 
 abbrev pub view_start : Widget → ℕ
 view_start widget = unwrap_or widget.start 0

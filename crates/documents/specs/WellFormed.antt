@@ -7,8 +7,9 @@ use Rattle.text_model.specs.Lines.{IsLineStart}
 use Rattle.text_model.specs.LimitTable.{LimitTable}
 use Rattle.undo_stack.specs.Fits.{FitsText}
 use Rattle.command_effects.specs.Words.{is_same, is_among, is_own}
-use Rattle.documents.specs.Keys.{Key}
-use Rattle.documents.specs.Documents.{Document, Widget, SharedMark, KeyedCell, characters, sel}
+use Rattle.reports.specs.declared.keys.Key.{Key}
+use Rattle.documents.specs.Documents.{Document, Widget, SharedMark, sel}
+use Rattle.reports.specs.Cells.{KeyedCell, characters}
 use Rattle.documents.specs.Views.{view_start, view_end}
 use Rattle.documents.specs.Kept.{is_window_name}
 

@@ -8,7 +8,8 @@ use Rattle.undo_stack.specs.History.{no_history}
 use Rattle.undo_stack.specs.Modified.{unmodified}
 use Rattle.command_effects.specs.declared.settings.Settings.{Settings}
 use Rattle.command_effects.specs.Words.{is_among, is_same}
-use Rattle.documents.specs.Keys.{KeyedCell, selection_stays}
+use Rattle.reports.specs.Cells.{KeyedCell}
+use Rattle.reports.specs.Keys.{selection_stays}
 use Rattle.documents.specs.Documents.{Document, Widget, sel}
 use Rattle.documents.specs.Options.{anchor_at, with_shared_settings}
 

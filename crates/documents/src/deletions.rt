@@ -12,10 +12,10 @@ ghost use Rattle.documents.specs.Views.{is_idle, shown};
 
 use crate::callers::Caller;
 use crate::documents::Document;
-use crate::told::{EditTold, report};
 use crate::views::{end_of, start_of};
 use command_effects::{Fault, Pair, plan_replacement, spans_of};
 use edit_ops::{EditRules, Target, commit, plan_delete};
+use reports::{EditTold, report};
 use text_model::{MarkNo, TagSlot, TextStore};
 
 impl<S: TextStore> Document<S> {

@@ -44,7 +44,7 @@ impl<S: TextStore> Model for Document<S> {
     ghost use Rattle.std.specs.Coded.{codes};
     ghost use Rattle.std.specs.FinSet as set;
     ghost use Rattle.text_model.specs.contracts.places.Place as place;
-    ghost use Rattle.documents.specs.Keys.{key_cmp, key_code};
+    ghost use Rattle.reports.specs.Keys.{key_cmp, key_code};
     ghost use Rattle.documents.specs.Documents.{Document as DocumentState, document_of};
     ghost use Rattle.documents.specs.Kept.{IsSound};
 

@@ -12,9 +12,9 @@ ghost use Rattle.undo_stack.specs.Modified.{is_modified};
 
 use crate::callers::Caller;
 use crate::documents::Document;
-use crate::told::{EditTold, report};
 use command_effects::{Answer, Fault};
 use edit_ops::{EditRules, commit, plan_redo, plan_undo};
+use reports::{EditTold, report};
 use text_model::{MarkNo, TextStore};
 
 impl<S: TextStore> Document<S> {

@@ -12,16 +12,17 @@ ghost use Rattle.tcl_words.specs.Unread.{texts_of};
 ghost use Rattle.mark_table.specs.Order.{next_mark, previous_mark, rank_of};
 ghost use Rattle.command_effects.specs.declared.answers.Answer.TheVariants.{Empty};
 ghost use Rattle.documents.specs.Names.{mark_number, mark_place};
-ghost use Rattle.documents.specs.Marks.{origin_in};
+ghost use Rattle.mark_table.specs.Order.{origin_in};
 ghost use Rattle.command_effects.specs.Marking.{gravity_word as spec_gravity_word};
 ghost use Rattle.documents.specs.Marks.{mark_names, mark_offset, mark_unset, place_named, set_found, usable_marks};
 ghost use Rattle.documents.specs.Marks.{with_current, with_insert, with_mark, with_shared};
 
 use crate::documents::Document;
+use crate::listing::push_mark_names;
 use crate::views::mark_view_of;
 use command_effects::{
-    Answer, Fault, gravity_word, is_word, make_mark, numbers_named, push_mark_names, put_mark,
-    take_marks, turn_mark, unset_names,
+    Answer, Fault, gravity_word, is_word, make_mark, numbers_named, put_mark, take_marks,
+    turn_mark, unset_names,
 };
 use mark_table::{Origin, WidgetMark};
 use std::alloc::AllocError;
@@ -274,8 +275,6 @@ impl<S: TextStore> Document<S> {
         let numbers = numbers_named(self.alloc, &self.marks, names)?;
         take_marks(self.alloc, &mut self.text.store, &numbers)?;
         unset_names(&mut self.marks, names);
-        // Where the marks are counted, they are known to be those of a table.
-        let _count = self.marks.len();
         Ok(Answer::Empty)
     }
 }

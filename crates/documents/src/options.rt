@@ -3,7 +3,8 @@
 ghost use Rattle.std.specs.Prelude.{◌≡◌, ◌+◌, ◌-◌, ◌<◌, ◌≤◌, false, length, option_map, Ok, IfSome};
 ghost use Rattle.command_effects.specs.declared.answers.Answer.TheVariants.{Empty};
 ghost use Rattle.command_effects.specs.Settings.{is_behind};
-ghost use Rattle.documents.specs.Documents.{characters, widget_at};
+ghost use Rattle.reports.specs.Cells.{characters};
+ghost use Rattle.documents.specs.Documents.{widget_at};
 ghost use Rattle.documents.specs.Options.{AreLines, IsLine, settings_of, with_settings};
 ghost use Rattle.documents.specs.Promise.{Does, answered};
 ghost use Rattle.text_model.specs.Content as model;

@@ -10,7 +10,7 @@ ghost use Rattle.command_effects.specs.Edits.{new_mark, with_own_marks};
 ghost use Rattle.command_effects.specs.Words.{is_same};
 ghost use Rattle.tcl_words.specs.ListGrowth.{Goes};
 ghost use Rattle.documents.specs.Documents.{whole};
-ghost use Rattle.documents.specs.Keys.{numbers_gone, seats_left};
+ghost use Rattle.reports.specs.Keys.{numbers_gone, seats_left};
 ghost use Rattle.documents.specs.Seats.{IsLonger};
 
 use command_effects::{is_among, is_word, put_widget_marks};

@@ -12,20 +12,20 @@ ghost use Rattle.edit_ops.specs.Tagging.{tagged};
 ghost use Rattle.tcl_words.specs.ListText.{list_text};
 ghost use Rattle.tcl_words.specs.Unread.{texts_of};
 ghost use Rattle.text_index.specs.Ranges.{tag_ranges, next_range, previous_range};
-ghost use Rattle.documents.specs.Tags.{flags_of, tags_on, add_spans, remove_spans, tag_delete, reordered, raised};
-ghost use Rattle.documents.specs.Tags.{lowered};
-ghost use Rattle.command_effects.specs.Listing.{range_words, begun};
+ghost use Rattle.tag_table.specs.Priority.{lowered, raised};
+ghost use Rattle.documents.specs.Tags.{flags_of, tags_on, add_spans, remove_spans, tag_delete, reordered};
+ghost use Rattle.documents.specs.Listing.{range_words, begun};
 ghost use Rattle.command_effects.specs.declared.answers.Answer.TheVariants.{Empty};
 
 use crate::callers::Caller;
 use crate::documents::Document;
-use crate::told::EditTold;
+use crate::listing::{push_names, push_names_in, push_next, push_previous, push_ranges};
 use crate::views::view_of;
 use command_effects::{
-    Answer, Fault, clear_slots, delete_names, deleted_slots, find_tag, push_names, push_names_in,
-    push_next, push_previous, push_ranges, set_slot, tag_spans,
+    Answer, Fault, clear_slots, delete_names, deleted_slots, find_tag, set_slot, tag_spans,
 };
 use edit_ops::EditRules;
+use reports::EditTold;
 use std::alloc::AllocError;
 use tag_table::NoSuchTag;
 use text_model::{TagSlot, Text, TextStore};
@@ -211,8 +211,6 @@ impl<S: TextStore> Document<S> {
         let slots = deleted_slots(self.alloc, &self.tags, names)?;
         clear_slots(self.alloc, &mut self.text, &slots)?;
         delete_names(&mut self.tags, names);
-        // Where the tags are counted, they are known to be those of a table.
-        let _count = self.tags.len();
         Ok(told)
     }
 

@@ -9,9 +9,9 @@ ghost use Rattle.documents.specs.Views.{is_idle, shown};
 
 use crate::callers::Caller;
 use crate::documents::Document;
-use crate::told::{EditTold, report};
 use command_effects::{Fault, Pair, plan_pairs};
 use edit_ops::{EditRules, commit};
+use reports::{EditTold, report};
 use std::alloc::AllocError;
 use text_model::{TagSlot, Text, TextStore};
 

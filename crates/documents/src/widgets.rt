@@ -16,7 +16,7 @@ ghost use Rattle.command_effects.specs.Settings.{is_behind};
 ghost use Rattle.text_model.specs.Lines.{lines};
 ghost use Rattle.text_model.specs.Content as model;
 ghost use Rattle.text_model.specs.declared.limits.TheConstants.Limits.{MOST_WIDGETS};
-ghost use Rattle.documents.specs.Documents.{characters};
+ghost use Rattle.reports.specs.Cells.{characters};
 ghost use Rattle.command_effects.specs.Words.{is_same};
 ghost use Rattle.std.specs.Prelude.{false, filter, not};
 

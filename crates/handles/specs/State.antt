@@ -5,7 +5,7 @@ use Rattle.tcl_words.specs.Unread.{Unread, nothing_fed, texts_of}
 use Rattle.edit_ops.specs.declared.changes.TextChange.{TextChange}
 use Rattle.command_effects.specs.declared.answers.Fault.TheVariants.{Memory}
 use Rattle.documents.specs.declared.mark_lists.MarkChange.{MarkChange}
-use Rattle.documents.specs.declared.tag_lists.TagChange.{TagChange}
+use Rattle.reports.specs.declared.tag_lists.TagChange.{TagChange}
 use Rattle.peers.specs.Windows.{Homes}
 use Rattle.peers.specs.World.{World}
 use Rattle.printing.specs.Lines.{piece}

@@ -10,7 +10,7 @@ use Rattle.documents.specs.Documents.{sel}
 use Rattle.documents.specs.declared.mark_lists.MarkChange.{MarkChange}
 use Rattle.documents.specs.declared.mark_lists.MarkKind.{MarkKind}
 use Rattle.documents.specs.declared.mark_lists.MarkKind.TheVariants.{Insert, Current, Shared}
-use Rattle.documents.specs.declared.tag_lists.TagChange.{TagChange}
+use Rattle.reports.specs.declared.tag_lists.TagChange.{TagChange}
 use Rattle.peers.specs.Concerned.{homes_asked, is_at, is_one, text_of_words}
 use Rattle.peers.specs.Step.{step}
 use Rattle.peers.specs.MarksTold.{MarksTellOf}

@@ -3,4 +3,5 @@ pub mod MarkLaws
 pub mod OneOffset
 pub mod OrderLaws
 pub mod SharedWalk
+pub mod ShiftLaws
 pub mod StoreLaws

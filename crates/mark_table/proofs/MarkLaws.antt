@@ -1,6 +1,6 @@
 -- Marks as a list of names with numbers, and a gravity for each number.
-use Rattle.mark_table.proofs.Common.{◌≡◌, ◌≢◌, ℕ, zero, suc, ◌+◌, ◌-◌, ◌<◌, ◌≤◌, Bool, true, false, Option, None}
-use Rattle.mark_table.proofs.Common.{if◌then◌else◌, Some, List, [], ◌∷◌, ◌++◌, length, map, slice_get, slice_set}
+use Rattle.mark_table.proofs.Common.{IfSome, ◌≡◌, ◌≢◌, ℕ, zero, suc, ◌+◌, ◌-◌, ◌<◌, ◌≤◌, Bool, true, false, Option}
+use Rattle.mark_table.proofs.Common.{None, if◌then◌else◌, Some, List, [], ◌∷◌, ◌++◌, length, map, slice_get, slice_set}
 use Rattle.mark_table.proofs.Common.{Contains, refl, sym, ap, ap₂, ◌∙◌, subst, inl, inr, take, arith, eq-eqb, ne_eqb}
 use Rattle.mark_table.proofs.Common.{length-append, length-set, position, find, remove, bytes_eq, unwrap_or}
 use Rattle.mark_table.proofs.Common.{MatchOption, SomeIff, option_map, cases_eq, length-map, map_push, none-some}
@@ -313,6 +313,17 @@ mark_with gravities es number own None same gone = rw (numbers_seen gravities es
 mark_with gravities es number own (Some place) same is = rw (numbers_seen gravities es)
     (slice_get-map (λ n. first_number + n) (list.numbers_of es) place ∙ ap (option_map (λ n. first_number + n)) is
     ∙ ap (λ n. Some n) same)
+
+pub mark_only : (gravities : List Gravity) (es : List Named) (number own : ℕ) (found : Option ℕ) →
+    first_number + own ≡ number
+    → IfSome found (λ place. (other : ℕ) → slice_get (list.numbers_of es) other ≡ Some own → other ≡ place)
+    → IfSome found (λ place. (other : ℕ) → slice_get (numbers_of (map (mark gravities) es)) other ≡ Some number →
+    other ≡ place)
+mark_only gravities es number own None same only = tt
+mark_only gravities es number own (Some place) same only = rw (numbers_seen gravities es) (λ other is.
+    let old = stood_at (λ n. first_number + n) (list.numbers_of es) other number is in
+    let own_is : old.0 ≡ own = let e = old.2 in omega arith in
+    only other (old.1 ∙ ap (λ n. Some n) own_is))
 
 -- no shared mark has one of the numbers before
 pub no_mark_with : (gravities : List Gravity) (es : List Named) (number : ℕ) → number < first_number →

@@ -2,10 +2,11 @@
 use Rattle.mark_table.proofs.Common.{◌≡◌, ◌≢◌, ℕ, zero, suc, ◌+◌, ◌*◌, Bool, true, false, cond, not, nat_lt, nat_le}
 use Rattle.mark_table.proofs.Common.{◌==◌, if◌then◌else◌, Option, None, Some, List, [], ◌∷◌, ◌++◌, slice_get, refl, sym}
 use Rattle.mark_table.proofs.Common.{ap, ap₂, ◌∙◌, subst, inl, inr, arith, true≢false, eq-eqb, find, filter, reduce}
-use Rattle.mark_table.proofs.Common.{fold, MatchOption, option_map_or, option_and_then, option_to_list, nat_tests}
-use Rattle.mark_table.proofs.Common.{none-some, same_Some, Place, Marks, Stands, MarkView, Shown, earlier, first, last}
-use Rattle.mark_table.proofs.Common.{own_mark, shared_mark, shared_marks, usable, shown_mark, next_shown}
-use Rattle.mark_table.proofs.Common.{previous_shown, IsFirst, IsLast, first_of, last_of, shared_at}
+use Rattle.mark_table.proofs.Common.{fold, MatchOption, option_map_or, option_to_list, nat_tests, none-some, same_Some}
+use Rattle.mark_table.proofs.Common.{Place, Marks, Stands, MarkView, Shown, earlier, first, last, own_mark, shared_mark}
+use Rattle.mark_table.proofs.Common.{shared_marks, usable, shown_mark, next_shown, previous_shown, IsFirst, IsLast}
+use Rattle.mark_table.proofs.Common.{first_of, last_of, shared_at}
+use Rattle.std.specs.Option.{option_and_then}
 use Rattle.std.proofs.lemmas.List.Elements.{filter_agree}
 use Rattle.mark_table.specs.declared.order.Origin.TheVariants.{Mark, Place as Offset}
 use Rattle.mark_table.specs.declared.order.WidgetMark.{WidgetMark}

@@ -82,3 +82,9 @@ next_mark origin marks = option_map (λ (shown : Shown). mark_of shown.rank) (ne
 
 abbrev pub previous_mark : Origin → List Shown → Option WidgetMark
 previous_mark origin marks = option_map (λ (shown : Shown). mark_of shown.rank) (previous_shown origin marks)
+
+-- From where a mark is asked for: a place of a view, which begins at a start, becomes an offset of the text, up to the
+-- most that a machine counts.
+abbrev pub origin_in : ℕ → ℕ → Origin → Origin
+origin_in most start (Mark mark) = Mark mark
+origin_in most start (Offset place) = Offset (min (place + start) most)

@@ -1,6 +1,6 @@
 //! The marks of a text by their names: the number of each in the text, and its gravity.
 
-ghost use Rattle.std.specs.Prelude.{◌≡◌, ◌<◌, ◌≤◌, ◌+◌, ◌↔◌, ◌∷◌, [], ◌++◌, length, slice_get, chars, string_bytes};
+ghost use Rattle.std.specs.Prelude.{◌≡◌, ℕ, ◌<◌, ◌≤◌, ◌+◌, ◌↔◌, ◌∷◌, [], ◌++◌, length, slice_get, chars, string_bytes};
 ghost use Rattle.std.specs.Prelude.{None, Some, Contains, IsNone, IsSome, IfOk, IfSome, OnOk, OnErr, MatchOption};
 ghost use Rattle.std.specs.Prelude.{MatchResult, slice_set, vec_len, vec_capacity};
 ghost use Rattle.std.specs.Option.{option_map};
@@ -97,8 +97,10 @@ impl MarkTable {
 
     /// The place of the mark that has a number.
     pub fn place(&self, number: MarkNo) -> Option<usize>
-        ensures { MatchOption result (¬ Contains (numbers_of self.now.marks) number.0)
+        ensures value { MatchOption result (¬ Contains (numbers_of self.now.marks) number.0)
             (λ place. slice_get (numbers_of self.now.marks) place ≡ Some number.0) }
+        ensures only { IfSome result (λ place. (other : ℕ) →
+            slice_get (numbers_of self.now.marks) other ≡ Some number.0 → other ≡ place) }
     {
         let names = &self.names;
         let number = number.0.checked_sub(2 * Limits::MOST_WIDGETS)?;
@@ -143,7 +145,8 @@ impl MarkTable {
 
     /// Takes a mark out. Its number is free again. An unknown name is skipped.
     pub fn unset(&mut self, name: &str)
-        ensures { self.new ≡ record self.old { marks = without (is_named (chars name.now)) self.old.marks } }
+        ensures value { self.new ≡ record self.old { marks = without (is_named (chars name.now)) self.old.marks } }
+        ensures sound { AreMarks self.old × AreMarks self.new }
     {
         if let Some(place) = self.names.place(name) {
             self.names.remove(place);

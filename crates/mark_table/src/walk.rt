@@ -95,7 +95,6 @@ impl MarkTable {
         ensures greatest { (place : ℕ) → slice_get (numbers_of self.now.marks) place ≡ Some number.0 → place < upto →
             place < result }
     {
-        let _len = self.len();
         match self.place(number) {
             Some(place) if place < upto => place + 1,
             _ => 0,

@@ -85,8 +85,10 @@ impl NameList {
 
     /// The place of the name that has a number.
     pub fn place_with(&self, number: u16) -> Option<usize>
-        ensures { MatchOption result (¬ Contains (numbers_of self.now.entries) number)
+        ensures value { MatchOption result (¬ Contains (numbers_of self.now.entries) number)
             (λ place. slice_get (numbers_of self.now.entries) place ≡ Some number) }
+        ensures only { IfSome result (λ place. (other : ℕ) →
+            slice_get (numbers_of self.now.entries) other ≡ Some number → other ≡ place) }
     {
         let place = *self.places.get(number as usize)?;
         Some(place? as usize)
@@ -141,7 +143,8 @@ impl NameList {
     /// Takes out the name at a place. Its number is free again.
     pub fn remove(&mut self, place: usize)
         requires { place < length self.old.entries }
-        ensures { self.new ≡ record self.old { entries = remove self.old.entries place } }
+        ensures value { self.new ≡ record self.old { entries = remove self.old.entries place } }
+        ensures sound { AreNames self.new }
     {
         self.take_out(place);
         self.give_back_room();
@@ -172,7 +175,8 @@ impl NameList {
     // Gives back room that is no longer needed: where more than four times the names and 16 more would fit, it becomes
     // twice the names. So it takes as long as a few of the removals before it, and a name more finds room again.
     fn give_back_room(&mut self)
-        ensures { self.new ≡ self.old }
+        ensures value { self.new ≡ self.old }
+        ensures sound { AreNames self.new }
     {
         give_back_places(&mut self.places);
         let len = self.numbers.len();

@@ -8,7 +8,6 @@ pub use Rattle.std.proofs.Common.{slice_set, string_bytes, subst, suc, sym, take
 pub use Rattle.command_effects.proofs.WrittenLaws.{filter-append}
 pub use Rattle.command_effects.specs.Arguments.{first_of, first_two_of, none_or_one_of, one_or_two_of, two_of}
 pub use Rattle.command_effects.specs.Faults.{shape_fault, with_value}
-pub use Rattle.command_effects.specs.Listing.{is_filled}
 pub use Rattle.command_effects.specs.Lists.{Pair, pairs_at, total, with_name}
 pub use Rattle.command_effects.specs.Marking.{gravity_of}
 pub use Rattle.command_effects.specs.Settings.{end_bound, first_settings, is_behind, line_numbered, line_of_word}
@@ -48,11 +47,12 @@ pub use Rattle.documents.proofs.ToldPlaceLaws.{deleted-taken, inserted-taken, pl
 pub use Rattle.documents.proofs.ToldPlaceLaws.{replaced-taken, still-taken}
 pub use Rattle.documents.proofs.UndoRunLaws.{AnswersFor, after_times, by_found, by_name, undone-redone}
 pub use Rattle.documents.specs.Deletions.{delete_places, replace_span}
-pub use Rattle.documents.specs.Documents.{Document, Widget, characters, no_widget, widget_at}
+pub use Rattle.documents.specs.Documents.{Document, Widget, no_widget, widget_at}
 pub use Rattle.documents.specs.History.{edit_redo, edit_reset, edit_undo, modified_set, redo_found, redone, undo_found}
 pub use Rattle.documents.specs.History.{undone}
 pub use Rattle.documents.specs.Indices.{place_at}
 pub use Rattle.documents.specs.Kept.{is_window_name}
+pub use Rattle.documents.specs.Listing.{is_filled}
 pub use Rattle.documents.specs.Marks.{mark_offset, mark_unset, place_named, set_found}
 pub use Rattle.documents.specs.MarksTold.{AreCarried, AreOthers, AreWatched, HasMarksBut, TakesMarksBut, TellsMarks}
 pub use Rattle.documents.specs.MarksTold.{carried_all, mark_at, mark_carried, mark_key, mark_keys, marks_dropped}
@@ -61,7 +61,6 @@ pub use Rattle.documents.specs.Options.{AreLines, IsLine, settings_of, with_sett
 pub use Rattle.documents.specs.Promise.{Change, Does, Gives, answered, change_with, refused, unless_idle}
 pub use Rattle.documents.specs.Tags.{add_spans, known_or, lowered, raised, remove_spans, reordered}
 pub use Rattle.documents.specs.Texts.{insert_at, insertion_offset, joined_text, tags_with, within_limits}
-pub use Rattle.documents.specs.Told.{IsTold, TellsCells, reply_of}
 pub use Rattle.documents.specs.Views.{is_idle, shown, view_end}
 pub use Rattle.documents.specs.WellFormed.{IsPlaced, IsWellFormedDocument, window_names}
 pub use Rattle.documents.specs.Widgets.{ShowsOpenly, bare_document, is_kept, keeps_some, new_document, new_widget}
@@ -94,6 +93,8 @@ pub use Rattle.peers.specs.Widgets.{peer_create, peer_settings, peer_with, peer_
 pub use Rattle.peers.specs.Windows.{Homes, home_in, home_kept, homes_at, homes_from, homes_of}
 pub use Rattle.peers.specs.World.{IsAt, World, all_windows, document_at, home, windows_of}
 pub use Rattle.peers.specs.declared.told.Told.{Told}
+pub use Rattle.reports.specs.Cells.{characters}
+pub use Rattle.reports.specs.Told.{TellsCells}
 pub use Rattle.std.proofs.lemmas.Bool.{false≢true, and_parts, eqb-false, false_from_ne_true, lt-ltb, ltb-false}
 pub use Rattle.std.proofs.lemmas.Bool.{ltb-true, or_parts, or_right}
 pub use Rattle.std.proofs.lemmas.Bool.Decides.{Decides-eqb, nat_tests}

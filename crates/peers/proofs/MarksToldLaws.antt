@@ -16,7 +16,7 @@ use Rattle.peers.proofs.Common.{marks-put, marks-stand, none-watched, one-watche
 use Rattle.peers.proofs.Common.{is_same, literal, current_key, insert_key, still-taken, MarkChange}
 use Rattle.edit_ops.specs.declared.changes.TextChange.{TextChange}
 use Rattle.documents.proofs.AbsentMarksLaws.{absent-carried}
-use Rattle.documents.proofs.MarksToldLaws.{same-word}
+use Rattle.reports.proofs.WordLaws.{same-word}
 use Rattle.documents.proofs.StillMarksLaws.{marks-alike, marks-configured, marks-quiet, marks-tagged}
 use Rattle.documents.specs.MarksListed.{shared_key}
 use Rattle.peers.proofs.FrontLaws.{set-at}

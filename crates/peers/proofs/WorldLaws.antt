@@ -12,7 +12,7 @@ use Rattle.std.specs.List.{IsDistinct}
 use Rattle.std.proofs.lemmas.List.Sums.{count_by-le-length, length-filter}
 use Rattle.peers.proofs.WindowLaws.{added-windows, count-more, distinct-kept, distinct-more, filter-changed}
 use Rattle.peers.proofs.WindowLaws.{filter-twice, front-windows, names-left, next-windows, peer-windows}
-use Rattle.documents.proofs.ClearedLaws.{map-filter}
+use Rattle.reports.proofs.ClearedLaws.{map-filter}
 use Rattle.documents.specs.Widgets as widgets
 
 -- ---- widgets of a document

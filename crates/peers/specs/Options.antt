@@ -10,7 +10,8 @@ use Rattle.command_effects.specs.Faults.{with_value}
 use Rattle.command_effects.specs.Settings.{setting_answer, settings_checked, settings_read}
 use Rattle.documents.specs.Options.{settings_of, with_settings}
 use Rattle.documents.specs.Promise.{Change, answered, change_with}
-use Rattle.documents.specs.Documents.{Document, Widget, characters}
+use Rattle.documents.specs.Documents.{Document, Widget}
+use Rattle.reports.specs.Cells.{characters}
 
 -- the settings with the values of options, of which the first stands at a position: each value is decided, and then the
 -- lines

@@ -12,7 +12,7 @@ use Rattle.documents.specs.Promise.{Change, change_with}
 use Rattle.peers.specs.Ranges.{places_at}
 use Rattle.documents.specs.Views.{shown}
 use Rattle.documents.specs.Documents.{Document, Widget}
-use Rattle.command_effects.specs.Listing.{begun, range_words}
+use Rattle.documents.specs.Listing.{begun, range_words}
 use Rattle.documents.specs.Tags.{add_spans, remove_spans, tags_on, flags_of, raised, lowered, reordered}
 use Rattle.text_index.specs.Ranges.{tag_ranges, next_range, previous_range}
 use Rattle.text_index.specs.declared.ranges.TagRange.{TagRange}

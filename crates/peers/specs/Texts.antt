@@ -13,7 +13,7 @@ use Rattle.documents.specs.Promise.{Change, change_with, unless_idle}
 use Rattle.peers.specs.Ranges.{places_at}
 use Rattle.documents.specs.Views.{shown}
 use Rattle.documents.specs.Documents.{Document, Widget}
-use Rattle.command_effects.specs.Listing.{is_filled}
+use Rattle.documents.specs.Listing.{is_filled}
 use Rattle.documents.specs.Texts.{insert_at, insertion_offset}
 
 abbrev pub insert_pairs : LimitTable → Document → Widget → Result (List Pair) Fault → ℕ → Change

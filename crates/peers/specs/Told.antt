@@ -4,10 +4,11 @@ use Rattle.undo_stack.specs.declared.actions.Action.{Action}
 use Rattle.command_effects.specs.declared.answers.Answer.{Answer}
 use Rattle.command_effects.specs.declared.answers.Answer.TheVariants.{Empty}
 use Rattle.command_effects.specs.declared.answers.Fault.{Fault}
-use Rattle.documents.specs.Documents.{Document, KeyedCell}
+use Rattle.documents.specs.Documents.{Document}
+use Rattle.reports.specs.Cells.{KeyedCell}
 use Rattle.documents.specs.Promise.{Change}
-use Rattle.documents.specs.Told.{TellsCells}
-use Rattle.documents.specs.declared.told.EditTold.{EditTold}
+use Rattle.reports.specs.Told.{TellsCells}
+use Rattle.reports.specs.declared.told.EditTold.{EditTold}
 use Rattle.peers.specs.Step.{step}
 use Rattle.peers.specs.World.{World, document_at, home}
 use Rattle.peers.specs.declared.told.Told.{Told}

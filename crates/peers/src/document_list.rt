@@ -9,7 +9,7 @@ ghost use Rattle.text_model.specs.declared.limits.TheConstants.Limits.{MOST_WIDG
 ghost use Rattle.tcl_words.specs.Unread.{texts_of};
 ghost use Rattle.command_effects.specs.Settings.{is_behind};
 ghost use Rattle.command_effects.specs.Words.{is_among};
-ghost use Rattle.documents.specs.Documents.{characters};
+ghost use Rattle.reports.specs.Cells.{characters};
 ghost use Rattle.documents.specs.Kept.{is_window_name};
 ghost use Rattle.documents.specs.MarksTold.{marks_dropped};
 ghost use Rattle.documents.specs.Options.{AreLines};

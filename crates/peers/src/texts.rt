@@ -10,11 +10,11 @@ ghost use Rattle.documents.specs.Promise.{Gives, Does, unless_idle};
 ghost use Rattle.documents.specs.Texts.{insert_at, insertion_offset};
 ghost use Rattle.documents.specs.Told.{reply_of, IsTold};
 ghost use Rattle.peers.specs.Texts.{insert, texts_of_places, got, get};
-ghost use Rattle.command_effects.specs.Listing.{is_filled};
+ghost use Rattle.documents.specs.Listing.{is_filled};
 
 use crate::ranges::places_at;
-use command_effects::{Answer, Fault, Pair, first, pairs_at, push_filled};
-use documents::{Caller, Document, EditTold};
+use command_effects::{Answer, Fault, Pair, first, pairs_at};
+use documents::{Caller, Document, EditTold, push_filled};
 use std::alloc::AllocError;
 use text_model::{Text, TextStore};
 

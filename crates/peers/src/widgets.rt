@@ -4,7 +4,8 @@ ghost use Rattle.std.specs.Prelude.{◌≡◌, ◌<◌, ◌+◌, ◌≤◌, fals
 ghost use Rattle.text_model.specs.Lines.{lines};
 ghost use Rattle.tcl_words.specs.Unread.{texts_of};
 ghost use Rattle.command_effects.specs.Settings.{is_behind};
-ghost use Rattle.documents.specs.Documents.{characters, widget_at};
+ghost use Rattle.reports.specs.Cells.{characters};
+ghost use Rattle.documents.specs.Documents.{widget_at};
 ghost use Rattle.documents.specs.Options.{AreLines};
 ghost use Rattle.documents.specs.Promise.{Gives};
 ghost use Rattle.peers.specs.Options.{settings_given};

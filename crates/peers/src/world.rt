@@ -7,7 +7,8 @@ ghost use Rattle.tcl_words.specs.Unread.{texts_of};
 ghost use Rattle.command_table.specs.Reading.{reading};
 ghost use Rattle.command_effects.specs.Settings.{is_behind};
 ghost use Rattle.command_effects.specs.Words.{is_among};
-ghost use Rattle.documents.specs.Documents.{characters, widget_at};
+ghost use Rattle.reports.specs.Cells.{characters};
+ghost use Rattle.documents.specs.Documents.{widget_at};
 ghost use Rattle.documents.specs.Kept.{is_window_name};
 ghost use Rattle.peers.specs.History.{can_redo_by, can_undo_by};
 ghost use Rattle.peers.specs.Step.{Makes, changed, create_named, create, create_shaped, destroy, destroy_shaped};
@@ -48,7 +49,7 @@ impl<S: TextStore> Model for World<S> {
     ghost use Rattle.std.specs.Coded.{codes};
     ghost use Rattle.std.specs.FinSet as set;
     ghost use Rattle.text_model.specs.contracts.places.Place as place;
-    ghost use Rattle.documents.specs.Keys.{key_cmp, key_code};
+    ghost use Rattle.reports.specs.Keys.{key_cmp, key_code};
     ghost use Rattle.peers.specs.World.{World as WorldState};
     ghost use Rattle.peers.specs.WellFormed.{IsWellFormed};
 

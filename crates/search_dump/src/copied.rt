@@ -65,7 +65,6 @@ impl Copied {
         ensures end { IfOk result (λ _. to ≤ self.new.end) }
         ensures limit { self.new.limit ≡ self.old.limit }
     {
-        let _end = view.e;
         if self.place == spot.place && to <= self.end {
             return Ok(());
         }

@@ -117,6 +117,5 @@ pub fn mark_from<S: TextStore>(
     requires within { view.now.s + place ≤ view.now.e }
     ensures { IsFirstMark S.content view.now names.now (view.now.s + place) result }
 {
-    let _end = view.e;
     next_mark(view, names, Origin::Place(view.s + place))
 }

@@ -270,7 +270,6 @@ fn push_listed_text<S: TextStore>(
         (text_in S.content view.now) spot.place (slice_range (text_in S.content view.now) spot.place to)))) }
     ensures left { IfOk result (λ _. AreLeft (text_in S.content view.now) copied.new) }
 {
-    let _end = view.e;
     if !listed.text {
         return Ok(());
     }
@@ -376,7 +375,6 @@ fn stop_at_line<S: TextStore>(view: &View<'_, S>, listed: Listed, spot: Spot, to
     ensures stop { IsTrue listed.text →
         IsNextStop (λ k. column_of (text_in S.content view.now) k == 0) spot.place to result }
 {
-    let _end = view.e;
     if !listed.text {
         return to;
     }
@@ -407,7 +405,6 @@ fn next_stop<S: TextStore>(
     ensures stop { IsStop listed (seen_in S.content sight.now.view.now sight.now.names.now) spot.place to result }
     ensures before { result ≤ tag }
 {
-    let _to = to;
     stop_at_line(sight.view, listed, spot, stop_at_mark(mark, tag))
 }
 
@@ -431,7 +428,6 @@ fn listed_before<S: TextStore>(sight: &Sight<'_, S>, listed: Listed, place: usiz
     requires within { sight.now.view.now.s + place ≤ sight.now.view.now.e }
     ensures { IsTrue listed.tags → AreTagsBefore S.content sight.now.view.now sight.now.names.now place result }
 {
-    let _widget = sight.names.widget;
     if !listed.tags {
         return TagSet::empty();
     }
@@ -444,7 +440,6 @@ fn listed_behind<S: TextStore>(sight: &Sight<'_, S>, listed: Listed, place: usiz
     requires within { sight.now.view.now.s + place ≤ sight.now.view.now.e }
     ensures { IsTrue listed.tags → AreTagsAt S.content sight.now.view.now sight.now.names.now place result }
 {
-    let _widget = sight.names.widget;
     if !listed.tags {
         return TagSet::empty();
     }

@@ -49,7 +49,6 @@ fn push_spot(list: &mut String, spot: Spot) -> Result<(), AllocError>
     ensures { OnOk result ((text : List ℕ) → IsSpot text spot → Goes (string_bytes list.old) (string_bytes list.new)
         (position_text text spot.place ∷ [])) }
 {
-    let _number = spot.line.number;
     push_space(list)?;
     push_index_on(list, spot.line, spot.place)?;
     Ok(())

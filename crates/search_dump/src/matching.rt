@@ -127,7 +127,6 @@ fn read<S: TextStore>(
     ensures { IfOk result (λ text. chars (string_bytes text)
         ≡ compared ignores_case (slice_range (text_in S.content view.now) from to)) }
 {
-    let _end = view.e;
     compared(
         view.store.copy_text(view.s + from, view.s + to)?,
         ignores_case,
@@ -218,7 +217,6 @@ fn goes_on<S: TextStore>(
     ensures { IfOk result (λ goes_on. IsTrue goes_on →
         HasMatchIn S.content view.now pattern.now (beside direction place period.entry.len)) }
 {
-    let _end = view.e;
     match direction {
         Direction::Forward => {
             let from = place + pattern.len;
@@ -256,7 +254,6 @@ pub fn match_beside<S: TextStore>(
     requires behind { IsBehind direction stretch place }
     ensures { IfOk result (λ found. found ≡ nearest_in S.content view.now pattern.now direction stretch) }
 {
-    let _end = view.e;
     let Some(period) = pattern.period else {
         return nearest_match(view, pattern, direction, stretch);
     };

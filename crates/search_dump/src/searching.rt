@@ -149,7 +149,6 @@ fn list_from<S: TextStore>(
     ensures { OnOk result (Goes (string_bytes list.old) (string_bytes list.new)
         (listed_in S.content view.now pattern.now search stretch)) }
 {
-    let _end = view.e;
     let mut rest = stretch;
     let mut next = first;
     while let Some(place) = next {
@@ -193,7 +192,6 @@ fn list_round<S: TextStore>(
     ensures { OnOk result (Goes (string_bytes list.old) (string_bytes list.new)
         (listed_behind S.content view.now pattern.now search from listed)) }
 {
-    let _end = view.e;
     let whole = search.second_stretch(view.len(), from);
     match search.left_to_list(whole, listed, pattern.len) {
         Some(rest) => list_stretch(list, view, pattern, search, rest),

@@ -38,7 +38,6 @@ pub fn tags_left_of<S: TextStore>(view: &View<'_, S>, place: usize) -> TagSet
         set.contains result slot ≡ flag_before (shown_flags slot
         (S.content view.now.store.now) view.now.s view.now.e) place }
 {
-    let _end = view.e;
     if place == 0 {
         return TagSet::empty();
     }
@@ -53,7 +52,6 @@ pub fn tags_at<S: TextStore>(view: &View<'_, S>, place: usize) -> TagSet
         set.contains result slot ≡ flag_at (shown_flags slot
         (S.content view.now.store.now) view.now.s view.now.e) place }
 {
-    let _end = view.e;
     if place == view.len() {
         return TagSet::empty();
     }

@@ -1,9 +1,8 @@
 -- The tags at the front of a table.
-use Rattle.tag_table.proofs.Common.{◌≡◌, ℕ, suc, true, false, Some, List, [], ◌∷◌, map, slice_get, refl, sym, ap, ◌∙◌}
-use Rattle.tag_table.proofs.Common.{arith, if◌then◌else◌, ◌==◌, find, bytes_eq, take, Decides-eqb, option_map}
-use Rattle.tag_table.proofs.Common.{none-some, same_Some, bytes_eq-Decides, Named, Names, AreKept, tag, tags_kept}
-use Rattle.tag_table.proofs.Common.{slot_of_number, Tag, Tags, slot_of, is_named, first_slot, sel, ◌+◌, ◌-◌}
-use Rattle.std.specs.List.{take-map}
+use Rattle.tag_table.proofs.Common.{◌≡◌, ℕ, true, false, Some, List, map, slice_get, refl, sym, ap, ◌∙◌, arith}
+use Rattle.tag_table.proofs.Common.{if◌then◌else◌, ◌==◌, take, Decides-eqb, Named, Names, AreKept, tag, tags_kept}
+use Rattle.tag_table.proofs.Common.{slot_of_number, Tag, Tags, slot_of, first_slot, sel, ◌+◌, ◌-◌, take-map, stood_at}
+use Rattle.tag_table.proofs.TagLaws.{stands_with}
 
 number_zero : (number : ℕ) → slot_of_number number ≡ 0 → number ≡ 0
 number_zero number is =
@@ -15,17 +14,11 @@ number_zero number is =
 -- where `sel` has slot 0, it stands there with number 0
 sel_stands : (es : List Named) → slot_of sel (map tag es) ≡ Some 0 →
     (at : ℕ) × (slice_get es at ≡ Some (record { name = sel; number = 0 }))
-sel_stands [] none = absurd (none-some 0 none)
-sel_stands (e ∷ es) is =
-    elim (bytes_eq sel e.name) as (λ b. bytes_eq sel e.name ≡ b →
-    option_map (λ (t : Tag). t.slot) (if b then Some (tag e) else find (is_named sel) (map tag es)) ≡ Some 0
-    → (at : ℕ) × (slice_get (e ∷ es) at ≡ Some (record { name = sel; number = 0 }))) [
-      | true ↦ λ same found.
-          let name : sel ≡ e.name = (bytes_eq-Decides sel e.name).0 same in
-          let number : e.number ≡ 0 = number_zero e.number (same_Some _ _ found) in
-          (0, λ i. Some (record { name = sym name i; number = number i }))
-      | false ↦ λ _ found. let rest = sel_stands es found in (suc rest.0, rest.1)
-    ] refl is
+sel_stands es is =
+    let there = stands_with sel 0 (map tag es) is in
+    let old = stood_at tag es there.0 _ there.1 in
+    let number : old.0.number ≡ 0 = number_zero old.0.number (ap (λ (t : Tag). t.slot) old.2) in
+    (there.0, old.1 ∙ (λ i. Some (record { name = (old.2 i).name; number = number i })))
 
 pub AreKept-front : (names : Names) (tags : Tags) (len : ℕ) → tags_kept names ≡ tags →
     slot_of sel (take len tags.tags) ≡ Some 0 → AreKept names →

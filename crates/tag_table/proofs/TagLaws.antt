@@ -1,34 +1,33 @@
--- Tags as a list of names with numbers, and moves in their order by places.
+-- Tags as a list of names with numbers: the slots of names, and moves in their order by places.
 use Rattle.tag_table.proofs.Common.{◌≡◌, ◌≢◌, ℕ, zero, suc, ◌+◌, ◌-◌, ◌<◌, ◌≤◌, Bool, true, false, nat_lt}
-use Rattle.tag_table.proofs.Common.{if◌then◌else◌, Option, None, Some, Result, Ok, Err, List, [], ◌∷◌, ◌++◌, length}
-use Rattle.tag_table.proofs.Common.{map, slice_get, Contains, refl, sym, ap, ap₂, ◌∙◌, subst, inl, inr, arith, lit<}
-use Rattle.tag_table.proofs.Common.{true≢false, position, find, insert, remove, is_some, bytes_eq, chars, IsUtf8}
-use Rattle.tag_table.proofs.Common.{IsAscii, IsNone, IfSome, option_map, nat_tests, length-map, none-some, same_Some}
-use Rattle.tag_table.proofs.Common.{slice_get-map, slice_get-get_or, slice_get_within, bytes_eq-Decides, move_index}
-use Rattle.tag_table.proofs.Common.{without, put_behind, put_before, Named, Names, AreNames, AreApart, place_of}
-use Rattle.tag_table.proofs.Common.{bytes_eq-chars, AreKept, tag, tags_kept, slot_of_number, place_above, above_place}
-use Rattle.tag_table.proofs.Common.{place_below, below_place, next_to, raised, raised_tag, lowered, lowered_tag}
-use Rattle.tag_table.proofs.Common.{deleted, Tag, Tags, AreTags, IsLeastFree, names_of, slots_of, slot_of, is_named}
-use Rattle.tag_table.proofs.Common.{sel}
-use Rattle.std.proofs.lemmas.Bool.{cases_eq}
+use Rattle.tag_table.proofs.Common.{if◌then◌else◌, Option, None, Some, List, [], ◌∷◌, ◌++◌, length, map, slice_get}
+use Rattle.tag_table.proofs.Common.{Contains, refl, sym, ap, ◌∙◌, subst, arith, lit<, true≢false, position, find}
+use Rattle.tag_table.proofs.Common.{insert, remove, is_some, bytes_eq, chars, IsUtf8, IsAscii, IsNone, IfSome}
+use Rattle.tag_table.proofs.Common.{option_map, nat_tests, length-map, none-some, same_Some, slice_get-map}
+use Rattle.tag_table.proofs.Common.{slice_get-get_or, slice_get_within, Named, Names, AreNames, AreApart, place_of}
+use Rattle.tag_table.proofs.Common.{bytes_eq-chars, map-move_index, AreKept, GoesTo, tag, tags_kept, slot_of_number}
+use Rattle.tag_table.proofs.Common.{Order, IsOrdered, is_tag, raised, lowered, deleted, Tag, Tags, AreTags, IsLeastFree}
+use Rattle.tag_table.proofs.Common.{names_of, slots_of, slot_of, is_named, sel, cond, ◌||◌, list_any, get_push}
+use Rattle.tag_table.proofs.Common.{get_remove_other, Stands, stands_map, stood_at, stands_from_Contains}
+use Rattle.tag_table.proofs.Common.{Contains-from_stands}
+use Rattle.std.proofs.lemmas.Slice.Eq.{bytes_eq-Decides}
+use Rattle.name_list.specs.Moves.{move_index, without, put_behind, put_before}
 use Rattle.std.proofs.lemmas.Str.{IsUtf8-from_ascii, chars-IsAscii}
-use Rattle.name_list.proofs.PlaceLaws.{stands_move}
-use Rattle.name_list.proofs.ListLaws.{get_push, get_remove_other, Stands, stands_map, stood_at, stands_from_Contains}
-use Rattle.name_list.proofs.ListLaws.{Contains-from_stands}
-use Rattle.name_list.proofs.MoveLaws.{position-passes, position-some, position-map, position-remove, first_is}
-use Rattle.name_list.proofs.MoveLaws.{none_found, found_at, not_found, without-push, without-remove, without_none}
-use Rattle.name_list.proofs.MoveLaws.{put_behind-insert, put_before-insert, insert-remove, moved_at, moved_last}
-use Rattle.tag_table.specs.declared.faults.NoSuchTag.{NoSuchTag}
-use Rattle.tag_table.specs.declared.faults.NoSuchTag.TheVariants.{Moved, Neighbour}
+use Rattle.name_list.proofs.PlaceLaws.{stands_move, stood_before_move, length-move}
+use Rattle.name_list.proofs.MoveLaws.{position-cons, position-passes, position-some, position-map, position-remove}
+use Rattle.name_list.proofs.MoveLaws.{position_within, first_is, none_found, found_at, not_found, without-push}
+use Rattle.name_list.proofs.MoveLaws.{without-remove, without_none, put_behind-insert, put_before-insert, insert-remove}
+use Rattle.name_list.proofs.MoveLaws.{moved_at, moved_last}
 use Rattle.name_list.specs.Names as list
 
 -- what is seen of the list
-pub place_seen : (name : List ℕ) (es : List Named) → position (is_named name) (map tag es) ≡ place_of name es
-place_seen name es = position-map tag (is_named name) es
-
 pub names_seen : (es : List Named) → names_of (map tag es) ≡ list.names_of es
 names_seen [] = refl
 names_seen (e ∷ es) = ap (λ ns. e.name ∷ ns) (names_seen es)
+
+pub place_seen : (name : List ℕ) (es : List Named) → position (bytes_eq name) (names_of (map tag es)) ≡ place_of name es
+place_seen name es =
+    ap (position (bytes_eq name)) (names_seen es) ∙ position-map (λ (e : Named). e.name) (bytes_eq name) es
 
 pub slots_seen : (es : List Named) → slots_of (map tag es) ≡ map slot_of_number (list.numbers_of es)
 slots_seen [] = refl
@@ -72,36 +71,78 @@ IsLeastFree-slot es number taken least =
           (stands_map slot_of_number numbers (k - 63) old));
     })
 
--- `sel` has slot 0
-selection_slot : (es : List Named) → AreApart (list.names_of es) →
-    (at : ℕ) × (slice_get es at ≡ Some (record { name = sel; number = 0 })) → slot_of sel (map tag es) ≡ Some 0
-selection_slot es apart (at, is) =
-    let own = (bytes_eq-Decides sel sel).1 refl in
-    let first = position-some (λ (e : Named). bytes_eq sel e.name) es at _ is own in
-    let entry = first_is (λ (e : Named). bytes_eq sel e.name) es first.0 first.1 in
-    let named = (bytes_eq-Decides sel entry.0.name).0
-    (position-passes (λ (e : Named). bytes_eq sel e.name) es first.0 entry.0 first.1 entry.1) in
-    let here = slice_get-map (λ (e : Named). e.name) es first.0 ∙ ap (option_map (λ (e : Named). e.name)) entry.1
-    ∙ ap (λ n. Some n) (sym named) in
-    let there = slice_get-map (λ (e : Named). e.name) es at ∙ ap (option_map (λ (e : Named). e.name)) is in
-    let same = apart first.0 at sel here there in
-    ap (option_map (λ (t : Tag). t.slot)) (found_at (is_named sel) (map tag es) at (place_seen sel es ∙ first.1
-    ∙ ap (λ i. Some i) same) ∙ slice_get-map tag es at ∙ ap (option_map tag) is)
+-- a tag is where its name is, and its slot is the one there
+by_name : (name : List ℕ) (tags : List Tag) → position (is_named name) tags ≡ position (bytes_eq name) (names_of tags)
+by_name name tags = sym (position-map (λ (t : Tag). t.name) (bytes_eq name) tags)
+
+named_at : (name : List ℕ) (names : List (List ℕ)) (at : ℕ) → position (bytes_eq name) names ≡ Some at →
+    slice_get names at ≡ Some name
+named_at name names at is =
+    let first = first_is (bytes_eq name) names at is in
+    first.1 ∙ ap (λ n. Some n) (sym ((bytes_eq-Decides name first.0).0
+    (position-passes (bytes_eq name) names at first.0 is first.1)))
+
+pub slot_at : (name : List ℕ) (tags : List Tag) (at : ℕ) → position (bytes_eq name) (names_of tags) ≡ Some at →
+    slot_of name tags ≡ slice_get (slots_of tags) at
+slot_at name tags at is =
+    ap (option_map (λ (t : Tag). t.slot)) (found_at (is_named name) tags at (by_name name tags ∙ is))
+    ∙ sym (slice_get-map (λ (t : Tag). t.slot) tags at)
+
+pub no_slot : (name : List ℕ) (tags : List Tag) → position (bytes_eq name) (names_of tags) ≡ None →
+    slot_of name tags ≡ None
+no_slot name tags none =
+    ap (option_map (λ (t : Tag). t.slot)) (not_found (is_named name) tags (by_name name tags ∙ none))
+
+-- a tag has a slot where it stands with it
+pub slot_standing : (name : List ℕ) (slot : ℕ) (tags : List Tag) → AreApart (names_of tags) →
+    Stands tags (record { name = name; slot = slot }) → slot_of name tags ≡ Some slot
+slot_standing name slot tags apart (at, is) =
+    let there = slice_get-map (λ (t : Tag). t.name) tags at ∙ ap (option_map (λ (t : Tag). t.name)) is in
+    let first = position-some (bytes_eq name) (names_of tags) at name there ((bytes_eq-Decides name name).1 refl) in
+    let same = apart first.0 at name (named_at name (names_of tags) first.0 first.1) there in
+    slot_at name tags at (first.1 ∙ ap (λ i. Some i) same) ∙ slice_get-map (λ (t : Tag). t.slot) tags at
+    ∙ ap (option_map (λ (t : Tag). t.slot)) is
+
+pub stands_with : (name : List ℕ) (slot : ℕ) (tags : List Tag) → slot_of name tags ≡ Some slot →
+    Stands tags (record { name = name; slot = slot })
+stands_with name slot [] none = absurd (none-some slot none)
+stands_with name slot (tag ∷ tags) is =
+    elim (bytes_eq name tag.name) as (λ b. bytes_eq name tag.name ≡ b →
+    option_map (λ (t : Tag). t.slot) (if b then Some tag else find (is_named name) tags) ≡ Some slot
+    → Stands (tag ∷ tags) (record { name = name; slot = slot })) [
+      | true ↦ λ same found.
+          let named : name ≡ tag.name = (bytes_eq-Decides name tag.name).0 same in
+          (0, λ i. Some (record { name = sym named i; slot = same_Some _ _ found i }))
+      | false ↦ λ _ found. let rest = stands_with name slot tags found in (suc rest.0, rest.1)
+    ] refl is
+
+-- where the same tags stand each name has its slot
+same_slots : (old new : List Tag) → AreApart (names_of old) → AreApart (names_of new) →
+    ((tag : Tag) → Stands old tag → Stands new tag) → ((tag : Tag) → Stands new tag → Stands old tag)
+    → (name : List ℕ) → slot_of name new ≡ slot_of name old
+same_slots old new old_apart new_apart stays stood name = by (slot_of name old) (slot_of name new) refl refl
+  where
+    by : (was now : Option ℕ) → slot_of name old ≡ was → slot_of name new ≡ now → slot_of name new ≡ slot_of name old
+    by None None was is = is ∙ sym was
+    by (Some slot) now was is = slot_standing name slot new new_apart (stays _ (stands_with name slot old was))
+        ∙ sym was
+    by None (Some slot) was is =
+        is ∙ sym (slot_standing name slot old old_apart (stood _ (stands_with name slot new is)))
 
 -- the laws of a table
 pub AreTags-kept : (names : Names) → AreNames names → AreKept names → AreTags (tags_kept names)
 AreTags-kept names are kept =
     let es = names.entries in
-    let selection = kept.selection in
+    let apart : AreApart (names_of (map tag es)) = rw (names_seen es) are.names_apart in
     record {
-      names_apart = rw (names_seen es) are.names_apart;
+      names_apart = apart;
       slots_apart = λ i j slot is also.
           let one = stood_at slot_of_number (list.numbers_of es) i slot (ap (λ ss. slice_get ss i) (sym (slots_seen es))
           ∙ is) in
           let two = stood_at slot_of_number (list.numbers_of es) j slot (ap (λ ss. slice_get ss j) (sym (slots_seen es))
           ∙ also) in
           are.numbers_apart i j one.0 one.1 (two.1 ∙ ap (λ n. Some n) (slots_apart two.0 one.0 (two.2 ∙ sym one.2)));
-      selection = selection_slot es are.names_apart selection;
+      selection = slot_standing sel 0 (map tag es) apart (stands_map tag es _ kept.selection);
       others = λ at slot is some.
           let old = stood_at slot_of_number (list.numbers_of es) at slot
           (ap (λ ss. slice_get ss at) (sym (slots_seen es)) ∙ is) in
@@ -111,206 +152,157 @@ AreTags-kept names are kept =
       limit = let few = kept.few in omega arith;
     }
 
--- the slot of a tag is that at its place
-pub slot_at : (name : List ℕ) (tags : List Tag) (at : ℕ) → position (is_named name) tags ≡ Some at →
-    slot_of name tags ≡ slice_get (slots_of tags) at
-slot_at name tags at is = ap (option_map (λ (t : Tag). t.slot)) (found_at (is_named name) tags at is)
-    ∙ sym (slice_get-map (λ (t : Tag). t.slot) tags at)
-
-pub no_slot : (name : List ℕ) (tags : List Tag) → position (is_named name) tags ≡ None → slot_of name tags ≡ None
-no_slot name tags none = ap (option_map (λ (t : Tag). t.slot)) (not_found (is_named name) tags none)
+pub AreTags-seen : {names : Names} {tags : Tags} → tags_kept names ≡ tags → AreNames names → AreKept names →
+    AreTags tags
+AreTags-seen {names} seen are kept = subst AreTags seen (AreTags-kept names are kept)
 
 pub no_place : (name : List ℕ) (es : List Named) → slot_of name (map tag es) ≡ None → place_of name es ≡ None
 no_place name es none =
-    sym (place_seen name es) ∙ none_found (is_named name) (map tag es) (no_tag (find (is_named name) (map tag es)) none)
+    sym (position-map tag (is_named name) es)
+    ∙ none_found (is_named name) (map tag es) (no_tag (find (is_named name) (map tag es)) none)
   where
     no_tag : (o : Option Tag) → option_map (λ (t : Tag). t.slot) o ≡ None → o ≡ None
     no_tag None e = refl
     no_tag (Some t) e = absurd (none-some t.slot (sym e))
 
--- a tag that isn't there can't move
-pub raised-unknown : (name : List ℕ) (above : Option (List ℕ)) (tags : List Tag) →
-    position (is_named name) tags ≡ None → raised name above tags ≡ Err Moved
-raised-unknown name above tags none = ap (λ t. raised_tag t name above tags) (not_found (is_named name) tags none)
+-- ---- names in another order
 
-pub lowered-unknown : (name : List ℕ) (below : Option (List ℕ)) (tags : List Tag) →
-    position (is_named name) tags ≡ None → lowered name below tags ≡ Err Moved
-lowered-unknown name below tags none = ap (λ t. lowered_tag t name below tags) (not_found (is_named name) tags none)
-
-not_ok : {A E : Type 0} (e : E) (x : A) → Err e ≡ Ok x → ⊥
-not_ok e x is = cc
-
-same_Ok : {A E : Type 0} (x y : A) → ◌≡◌ {A = Result A E} (Ok x) (Ok y) → x ≡ y
-same_Ok x y is = cc
-
-same_Err : {A E : Type 0} (x y : E) → ◌≡◌ {A = Result A E} (Err x) (Err y) → x ≡ y
-same_Err x y is = cc
-
--- two names that stand at one place are the same, and the same name stands at one place
-same_name : (name other : List ℕ) (tags : List Tag) (from : ℕ) → position (is_named name) tags ≡ Some from →
-    position (is_named other) tags ≡ Some from → bytes_eq name other ≡ true
-same_name name other tags from is also =
-    let here = first_is (is_named name) tags from is in
-    let one = (bytes_eq-Decides name here.0.name).0 (position-passes (is_named name) tags from here.0 is here.1) in
-    let two = (bytes_eq-Decides other here.0.name).0 (position-passes (is_named other) tags from here.0 also here.1) in
-    (bytes_eq-Decides name other).1 (one ∙ sym two)
-
-other_name : (name other : List ℕ) (tags : List Tag) (from at : ℕ) → position (is_named name) tags ≡ Some from →
-    position (is_named other) tags ≡ Some at → at ≢ from → bytes_eq name other ≡ false
-other_name name other tags from at is also apart = by (bytes_eq name other) refl
+any-position : {A : Type 0} (test : A → Bool) (xs : List A) → list_any test xs ≡ is_some (position test xs)
+any-position test [] = refl
+any-position test (x ∷ xs) =
+    elim (test x) as (λ b. (b || list_any test xs)
+    ≡ is_some (cond b (Some 0) (option_map (λ i. suc i) (position test xs)))) [
+      | true ↦ refl
+      | false ↦ any-position test xs ∙ later (position test xs)
+    ] ∙ ap is_some (sym (position-cons test x xs))
   where
-    by : (b : Bool) → bytes_eq name other ≡ b → b ≡ false
-    by false e = refl
-    by true e = absurd (apart (same_Some at from (sym also
-        ∙ ap (λ n. position (is_named n) tags) (sym ((bytes_eq-Decides name other).0 e)) ∙ is)))
+    later : (o : Option ℕ) → is_some o ≡ is_some (option_map (λ i. suc i) o)
+    later None = refl
+    later (Some i) = refl
 
-module _ (name : List ℕ) (tags : List Tag) (from : ℕ) (is : position (is_named name) tags ≡ Some from) where
-  known : (other : List ℕ) (at : ℕ) → position (is_named other) tags ≡ Some at →
-      is_some (find (is_named other) tags) ≡ true
-  known other at also = let found = first_is (is_named other) tags at also in
-      ap is_some (found_at (is_named other) tags at also ∙ found.1)
+-- a name is one of a tag where it has a place
+pub placed : (name : List ℕ) (tags : List Tag) (place : Option ℕ) → position (bytes_eq name) (names_of tags) ≡ place →
+    is_tag name tags ≡ is_some place
+placed name tags place is = any-position (bytes_eq name) (names_of tags) ∙ ap is_some is
 
-  unknown : (other : List ℕ) → position (is_named other) tags ≡ None → is_some (find (is_named other) tags) ≡ false
-  unknown other also = ap is_some (not_found (is_named other) tags also)
+module _ (name : List ℕ) (names : List (List ℕ)) (from : ℕ) (is : position (bytes_eq name) names ≡ Some from) where
+  here : slice_get names from ≡ Some name
+  here = named_at name names from is
 
-  found : (x : Tag) × (slice_get tags from ≡ Some x) × (find (is_named name) tags ≡ Some x)
-  found = let first = first_is (is_named name) tags from is in
-      (first.0, first.1, found_at (is_named name) tags from is ∙ first.1)
+  rest : without (bytes_eq name) names ≡ remove names from
+  rest = without-remove (bytes_eq name) names from is
 
-  rest : without (is_named name) tags ≡ remove tags from
-  rest = without-remove (is_named name) tags from is
+  pub raised-last : raised names name None ≡ move_index names from (length names - 1)
+  raised-last = ap (λ left. left ++ name ∷ []) rest ∙ sym (moved_last names from name here)
 
-  stays : move_index tags from from ≡ tags
-  stays = moved_at tags from from found.0 found.1 ∙ insert-remove tags from found.0 found.1
+  pub lowered-first : lowered names name None ≡ move_index names from 0
+  lowered-first = ap (λ left. name ∷ left) rest ∙ sym (moved_at names from 0 name here)
 
-  next_to-unknown : (other : List ℕ) (new : List Tag) → position (is_named other) tags ≡ None →
-      next_to name other tags new ≡ Err Neighbour
-  next_to-unknown other new none =
-      ap (λ b. if b then Ok (if bytes_eq name other then tags else new) else Err Neighbour) (unknown other none)
+  -- next to another name, which may be the same one
+  beside : (other : List ℕ) (made : List (List ℕ)) (at to : ℕ) → position (bytes_eq other) names ≡ Some at →
+      (at ≡ from → to ≡ from) → (at ≢ from → made ≡ insert (remove names from) to name)
+      → (if bytes_eq name other then names else made) ≡ move_index names from to
+  beside other made at to also itself apart =
+      elim (bytes_eq name other) as (λ b. bytes_eq name other ≡ b →
+      (if b then names else made) ≡ move_index names from to) [
+        | true ↦ λ same.
+            let one = same_Some at from (sym also
+            ∙ ap (λ n. position (bytes_eq n) names) (sym ((bytes_eq-Decides name other).0 same)) ∙ is) in
+            sym (ap (move_index names from) (itself one) ∙ moved_at names from from name here
+            ∙ insert-remove names from name here)
+        | false ↦ λ differ.
+            apart (λ one. true≢false (sym ((bytes_eq-Decides name other).1 (same_Some name other (sym here
+            ∙ ap (slice_get names) (sym one) ∙ named_at other names at also))) ∙ differ))
+            ∙ sym (moved_at names from to name here)
+      ] refl
 
-  next_to-itself : (other : List ℕ) (new : List Tag) → position (is_named other) tags ≡ Some from →
-      next_to name other tags new ≡ Ok tags
-  next_to-itself other new also = ap₂ (λ b c. if b then Ok (if c then tags else new)
-      else Err Neighbour) (known other from also) (same_name name other tags from is also)
+  pub raised-above : (other : List ℕ) (at to : ℕ) → position (bytes_eq other) names ≡ Some at →
+      to ≡ (if nat_lt at from then at + 1 else at) → raised names name (Some other) ≡ move_index names from to
+  raised-above other at to also goes =
+      beside other (put_behind (bytes_eq other) name (without (bytes_eq name) names)) at to also
+      (λ same. grind (arith, nat_tests)) (λ apart. ap (put_behind (bytes_eq other) name) rest
+      ∙ put_behind-insert (bytes_eq other) name (remove names from) _
+      (position-remove (bytes_eq other) names from at also apart)
+      ∙ ap (λ k. insert (remove names from) k name) (let d : (if nat_lt at from then at else at - 1) + 1
+      ≡ to = grind (arith, nat_tests) in d))
 
-  next_to-other : (other : List ℕ) (new : List Tag) (at : ℕ) → position (is_named other) tags ≡ Some at → at ≢ from →
-      next_to name other tags new ≡ Ok new
-  next_to-other other new at also apart = ap₂ (λ b c. if b then Ok (if c then tags else new)
-      else Err Neighbour) (known other at also) (other_name name other tags from at is also apart)
+  pub lowered-below : (other : List ℕ) (at to : ℕ) → position (bytes_eq other) names ≡ Some at →
+      to ≡ (if nat_lt from at then at - 1 else at) → lowered names name (Some other) ≡ move_index names from to
+  lowered-below other at to also goes =
+      beside other (put_before (bytes_eq other) name (without (bytes_eq name) names)) at to also
+      (λ same. grind (arith, nat_tests)) (λ apart. ap (put_before (bytes_eq other) name) rest
+      ∙ put_before-insert (bytes_eq other) name (remove names from) _
+      (position-remove (bytes_eq other) names from at also apart)
+      ∙ ap (λ k. insert (remove names from) k name) (let d : (if nat_lt at from then at else at - 1)
+      ≡ to = grind (arith, nat_tests) in d))
 
-  -- a tag that moves by places has moved by names
-  pub raised-last : raised name None tags ≡ Ok (move_index tags from (length tags - 1))
-  raised-last = ap (λ t. raised_tag t name None tags) found.2 ∙ ap (λ ts. Ok (ts ++ found.0 ∷ [])) rest
-      ∙ ap (λ ts. Ok ts) (sym (moved_last tags from found.0 found.1))
+-- ---- where a tag goes
 
-  pub raised-none : (above : List ℕ) → position (is_named above) tags ≡ None →
-      raised name (Some above) tags ≡ Err Neighbour
-  raised-none above none = ap (λ t. raised_tag t name (Some above) tags) found.2 ∙ next_to-unknown above _ none
+place_within : (name : List ℕ) (tags : List Tag) (at : ℕ) → position (bytes_eq name) (names_of tags) ≡ Some at →
+    at < length tags
+place_within name tags at is = let within = position_within (bytes_eq name) (names_of tags) at is in
+    omega (arith, within, length-map tags (λ (t : Tag). t.name))
 
-  pub raised-above : (above : List ℕ) (at : ℕ) → position (is_named above) tags ≡ Some at →
-      raised name (Some above) tags ≡ Ok (move_index tags from (if nat_lt at from then at + 1 else at))
-  raised-above above at also = ap (λ t. raised_tag t name (Some above) tags) found.2 ∙ elim (cases_eq at from) [
-    | inl same ↦
-        next_to-itself above _ (also ∙ ap (λ i. Some i) same) ∙ ap (λ ts. Ok ts) (sym stays)
-        ∙ ap (λ to. Ok (move_index tags from to)) (let d : from
-        ≡ (if nat_lt at from then at + 1 else at) = grind (arith, nat_tests) in d)
-    | inr apart ↦
-        next_to-other above _ at also apart
-        ∙ ap (λ ts. Ok (put_behind (is_named above) found.0 ts)) rest
-        ∙ ap (λ ts. Ok ts) (put_behind-insert (is_named above) found.0 (remove tags from) _
-        (position-remove (is_named above) tags from at also apart)
-        ∙ ap (λ to. insert (remove tags from) to found.0) (let d : (if nat_lt at from then at else at - 1) + 1
-        ≡ (if nat_lt at from then at + 1 else at) = grind (arith, nat_tests) in d)
-        ∙ sym (moved_at tags from _ found.0 found.1))
-  ]
+pub goes-highest : (from len : ℕ) (tags : List Tag) → from < length tags → len ≡ length tags →
+    GoesTo raised from None tags (len - 1)
+goes-highest from len tags within many = record {
+  neighbour = tt;
+  names = λ name is. raised-last name (names_of tags) from is
+      ∙ ap (λ n. move_index (names_of tags) from (n - 1)) (length-map tags (λ (t : Tag). t.name) ∙ sym many);
+  within = omega (arith, within, many);
+}
 
-  pub lowered-first : lowered name None tags ≡ Ok (move_index tags from 0)
-  lowered-first = ap (λ t. lowered_tag t name None tags) found.2 ∙ ap (λ ts. Ok (found.0 ∷ ts)) rest
-      ∙ ap (λ ts. Ok ts) (sym (moved_at tags from 0 found.0 found.1))
+pub goes-above : (from at to : ℕ) (other : List ℕ) (tags : List Tag) → from < length tags →
+    position (bytes_eq other) (names_of tags) ≡ Some at → to ≡ (if nat_lt at from then at + 1 else at)
+    → GoesTo raised from (Some other) tags to
+goes-above from at to other tags within is goes = record {
+  neighbour = placed other tags (Some at) is;
+  names = λ name here. raised-above name (names_of tags) from here other at to is goes;
+  within = let there = place_within other tags at is in grind (arith, nat_tests);
+}
 
-  pub lowered-none : (below : List ℕ) → position (is_named below) tags ≡ None →
-      lowered name (Some below) tags ≡ Err Neighbour
-  lowered-none below none = ap (λ t. lowered_tag t name (Some below) tags) found.2 ∙ next_to-unknown below _ none
+pub goes-lowest : (from : ℕ) (tags : List Tag) → from < length tags → GoesTo lowered from None tags 0
+goes-lowest from tags within = record {
+  neighbour = tt;
+  names = λ name is. lowered-first name (names_of tags) from is;
+  within = omega (arith, within);
+}
 
-  pub lowered-below : (below : List ℕ) (at : ℕ) → position (is_named below) tags ≡ Some at →
-      lowered name (Some below) tags ≡ Ok (move_index tags from (if nat_lt from at then at - 1 else at))
-  lowered-below below at also = ap (λ t. lowered_tag t name (Some below) tags) found.2 ∙ elim (cases_eq at from) [
-    | inl same ↦
-        next_to-itself below _ (also ∙ ap (λ i. Some i) same) ∙ ap (λ ts. Ok ts) (sym stays)
-        ∙ ap (λ to. Ok (move_index tags from to)) (let d : from
-        ≡ (if nat_lt from at then at - 1 else at) = grind (arith, nat_tests) in d)
-    | inr apart ↦
-        next_to-other below _ at also apart
-        ∙ ap (λ ts. Ok (put_before (is_named below) found.0 ts)) rest
-        ∙ ap (λ ts. Ok ts) (put_before-insert (is_named below) found.0 (remove tags from) _
-        (position-remove (is_named below) tags from at also apart)
-        ∙ ap (λ to. insert (remove tags from) to found.0) (let d : (if nat_lt at from then at else at - 1)
-        ≡ (if nat_lt from at then at - 1 else at) = grind (arith, nat_tests) in d)
-        ∙ sym (moved_at tags from _ found.0 found.1))
-  ]
+pub goes-below : (from at to : ℕ) (other : List ℕ) (tags : List Tag) → from < length tags →
+    position (bytes_eq other) (names_of tags) ≡ Some at → to ≡ (if nat_lt from at then at - 1 else at)
+    → GoesTo lowered from (Some other) tags to
+goes-below from at to other tags within is goes = record {
+  neighbour = placed other tags (Some at) is;
+  names = λ name here. lowered-below name (names_of tags) from here other at to is goes;
+  within = let there = place_within other tags at is in grind (arith, nat_tests);
+}
 
--- `place_above` and `place_below` say where
-pub raised-to : (name : List ℕ) (above : Option (List ℕ)) (tags : List Tag) (from to : ℕ) →
-    position (is_named name) tags ≡ Some from → place_above from above tags ≡ Ok to →
-    raised name above tags ≡ Ok (move_index tags from to)
-raised-to name None tags from to is goes =
-    raised-last name tags from is ∙ ap (λ k. Ok (move_index tags from k)) (same_Ok _ _ goes)
-raised-to name (Some above) tags from to is goes = by (position (is_named above) tags) refl goes
-  where
-    by : (o : Option ℕ) → position (is_named above) tags ≡ o → above_place from o ≡ Ok to →
-        raised name (Some above) tags ≡ Ok (move_index tags from to)
-    by None none e = absurd (not_ok _ _ e)
-    by (Some at) also e =
-        raised-above name tags from is above at also ∙ ap (λ k. Ok (move_index tags from k)) (same_Ok _ _ e)
-
-pub raised-fault : (name : List ℕ) (above : Option (List ℕ)) (tags : List Tag) (from : ℕ) (fault : NoSuchTag) →
-    position (is_named name) tags ≡ Some from → place_above from above tags ≡ Err fault →
-    raised name above tags ≡ Err fault
-raised-fault name None tags from fault is goes = absurd (not_ok _ _ (sym goes))
-raised-fault name (Some above) tags from fault is goes = by (position (is_named above) tags) refl goes
-  where
-    by : (o : Option ℕ) → position (is_named above) tags ≡ o → above_place from o ≡ Err fault →
-        raised name (Some above) tags ≡ Err fault
-    by None none e = raised-none name tags from is above none ∙ ap (λ f. Err f) (same_Err _ _ e)
-    by (Some at) also e = absurd (not_ok _ _ (sym e))
-
-pub lowered-to : (name : List ℕ) (below : Option (List ℕ)) (tags : List Tag) (from to : ℕ) →
-    position (is_named name) tags ≡ Some from → place_below from below tags ≡ Ok to →
-    lowered name below tags ≡ Ok (move_index tags from to)
-lowered-to name None tags from to is goes =
-    lowered-first name tags from is ∙ ap (λ k. Ok (move_index tags from k)) (same_Ok _ _ goes)
-lowered-to name (Some below) tags from to is goes = by (position (is_named below) tags) refl goes
-  where
-    by : (o : Option ℕ) → position (is_named below) tags ≡ o → below_place from o ≡ Ok to →
-        lowered name (Some below) tags ≡ Ok (move_index tags from to)
-    by None none e = absurd (not_ok _ _ e)
-    by (Some at) also e =
-        lowered-below name tags from is below at also ∙ ap (λ k. Ok (move_index tags from k)) (same_Ok _ _ e)
-
-pub lowered-fault : (name : List ℕ) (below : Option (List ℕ)) (tags : List Tag) (from : ℕ) (fault : NoSuchTag) →
-    position (is_named name) tags ≡ Some from → place_below from below tags ≡ Err fault →
-    lowered name below tags ≡ Err fault
-lowered-fault name None tags from fault is goes = absurd (not_ok _ _ (sym goes))
-lowered-fault name (Some below) tags from fault is goes = by (position (is_named below) tags) refl goes
-  where
-    by : (o : Option ℕ) → position (is_named below) tags ≡ o → below_place from o ≡ Err fault →
-        lowered name (Some below) tags ≡ Err fault
-    by None none e = lowered-none name tags from is below none ∙ ap (λ f. Err f) (same_Err _ _ e)
-    by (Some at) also e = absurd (not_ok _ _ (sym e))
-
--- where one of two names is given
+-- the place of a name, of which the list says where it is
 pub place_of_tag : (name : List ℕ) (names : Names) (tags : Tags) (place : Option ℕ) → tags_kept names ≡ tags →
-    place ≡ place_of name names.entries → position (is_named name) tags.tags ≡ place
+    place ≡ place_of name names.entries → position (bytes_eq name) (names_of tags.tags) ≡ place
 place_of_tag name names tags place seen is =
-    ap (λ (ts : Tags). position (is_named name) ts.tags) (sym seen) ∙ place_seen name names.entries ∙ sym is
+    ap (λ (ts : Tags). position (bytes_eq name) (names_of ts.tags)) (sym seen) ∙ place_seen name names.entries ∙ sym is
 
-pub above_is : (from : ℕ) (above : Option (List ℕ)) (name : List ℕ) (place : Option ℕ) (tags : List Tag) →
-    above ≡ Some name → position (is_named name) tags ≡ place → place_above from above tags ≡ above_place from place
-above_is from above name place tags is at = ap (λ o. place_above from o tags) is ∙ ap (above_place from) at
-
-pub below_is : (from : ℕ) (below : Option (List ℕ)) (name : List ℕ) (place : Option ℕ) (tags : List Tag) →
-    below ≡ Some name → position (is_named name) tags ≡ place → place_below from below tags ≡ below_place from place
-below_is from below name place tags is at = ap (λ o. place_below from o tags) is ∙ ap (below_place from) at
+-- a tag moved to where it goes
+pub ordered-move : (order : Order) (name : List ℕ) (other : Option (List ℕ)) (names new : Names) (tags : Tags)
+    (from to : ℕ) → tags_kept names ≡ tags → AreTags tags → AreTags (tags_kept new)
+    → new ≡ record names { entries = move_index names.entries from to }
+    → position (bytes_eq name) (names_of tags.tags) ≡ Some from → GoesTo order from other tags.tags to
+    → IsOrdered order name other tags.tags (map tag new.entries)
+ordered-move order name other names new tags from to seen sound still moved at goes =
+    let is : map tag new.entries ≡ move_index tags.tags from to = ap (λ (ns : Names). map tag ns.entries) moved
+    ∙ map-move_index tag names.entries from to ∙ ap (λ (ts : Tags). move_index ts.tags from to) seen in
+    let apart = subst (λ ts. AreApart (names_of ts)) is still.names_apart in
+    let old = stood_at (λ (t : Tag). t.name) tags.tags from name (named_at name (names_of tags.tags) from at) in
+    record {
+      known = placed name tags.tags (Some from) at;
+      neighbour = goes.neighbour;
+      names = ap names_of is ∙ map-move_index (λ (t : Tag). t.name) tags.tags from to ∙ sym (goes.names name at);
+      slots = λ n. ap (slot_of n) is ∙ same_slots tags.tags (move_index tags.tags from to) sound.names_apart apart
+          (stands_move tags.tags from to old.0 old.1 goes.within)
+          (stood_before_move tags.tags from to old.0 old.1 goes.within) n;
+      many = ap length is ∙ length-move tags.tags from to old.0 old.1 goes.within;
+    }
 
 -- the table stays one
 pub AreKept-push : (names : Names) (entry : Named) → AreKept names →
@@ -385,14 +377,17 @@ pub deleted-sel : (name : List ℕ) (tags : List Tag) → bytes_eq name sel ≡ 
 deleted-sel name tags is = ap (λ b. if b then tags else without (is_named name) tags) is
 
 pub deleted-at : (name : List ℕ) (tags : List Tag) (at : ℕ) → bytes_eq name sel ≡ false →
-    position (is_named name) tags ≡ Some at → deleted name tags ≡ remove tags at
-deleted-at name tags at other is =
-    ap (λ b. if b then tags else without (is_named name) tags) other ∙ without-remove (is_named name) tags at is
+    position (bytes_eq name) (names_of tags) ≡ Some at → deleted name tags ≡ remove tags at
+deleted-at name tags at other is = ap (λ b. if b then tags else without (is_named name) tags) other
+    ∙ without-remove (is_named name) tags at (by_name name tags ∙ is)
 
-pub deleted-none : (name : List ℕ) (tags : List Tag) → bytes_eq name sel ≡ false →
-    position (is_named name) tags ≡ None → deleted name tags ≡ tags
-deleted-none name tags other is =
-    ap (λ b. if b then tags else without (is_named name) tags) other ∙ without_none (is_named name) tags is
+pub deleted-none : (name : List ℕ) (tags : List Tag) → position (bytes_eq name) (names_of tags) ≡ None →
+    deleted name tags ≡ tags
+deleted-none name tags is =
+    elim (bytes_eq name sel) as (λ b. (if b then tags else without (is_named name) tags) ≡ tags) [
+      | true ↦ refl
+      | false ↦ without_none (is_named name) tags (by_name name tags ∙ is)
+    ]
 
 pub sel_number : (names : Names) → AreKept names → Contains (list.numbers_of names.entries) 0
 sel_number names kept = let at = kept.selection in
@@ -420,4 +415,4 @@ deleted-push names name number kept none = by (bytes_eq name sel) refl
         else without (is_named name) (map tag names.entries ++ record { name = name; slot = slot_of_number number }
         ∷ [])) other
         ∙ without-push (is_named name) (map tag names.entries) (record { name = name; slot = slot_of_number number })
-        (place_seen name names.entries ∙ none) ((bytes_eq-Decides name name).1 refl)
+        (position-map tag (is_named name) names.entries ∙ none) ((bytes_eq-Decides name name).1 refl)

@@ -1,11 +1,11 @@
 -- A table of tags as it is kept: a list of names with numbers. `sel` has the number 0.
-use Rattle.std.specs.Prelude.{◌≡◌, ℕ, ◌+◌, ◌-◌, ◌<◌, ◌≤◌, ◌==◌, nat_lt, Option, None, Some, Result, Ok, Err, List, map}
-use Rattle.std.specs.Prelude.{length, position, slice_get, if◌then◌else◌}
+use Rattle.std.specs.Prelude.{◌≡◌, ℕ, ◌+◌, ◌-◌, ◌<◌, ◌≤◌, ◌==◌, true, Option, Some, List, map, length, position}
+use Rattle.std.specs.Prelude.{bytes_eq, slice_get, if◌then◌else◌, IfSome}
+use Rattle.name_list.specs.Moves.{move_index}
 use Rattle.name_list.specs.Names.{Named, Names}
 use Rattle.text_model.specs.LimitTable.{most_tags}
-use Rattle.tag_table.specs.declared.faults.NoSuchTag.{NoSuchTag}
-use Rattle.tag_table.specs.declared.faults.NoSuchTag.TheVariants.{Neighbour}
-use Rattle.tag_table.specs.Tags.{Tag, Tags, first_slot, is_named, sel}
+use Rattle.tag_table.specs.Priority.{Order, is_tag}
+use Rattle.tag_table.specs.Tags.{Tag, Tags, first_slot, names_of, sel}
 
 abbrev pub slot_of_number : ℕ → ℕ
 slot_of_number number = if number == 0 then 0 else first_slot - 1 + number
@@ -21,20 +21,9 @@ pub record AreKept (names : Names) : Type 0 where
   pub few : names.limit ≤ most_tags + 1
   pub selection : (at : ℕ) × (slice_get names.entries at ≡ Some (record { name = sel; number = 0 }))
 
-abbrev pub above_place : ℕ → Option ℕ → Result ℕ NoSuchTag
-above_place from None = Err Neighbour
-above_place from (Some at) = Ok (if nat_lt at from then at + 1 else at)
-
--- where a tag goes that is put just above another, or highest
-abbrev pub place_above : ℕ → Option (List ℕ) → List Tag → Result ℕ NoSuchTag
-place_above from None tags = Ok (length tags - 1)
-place_above from (Some name) tags = above_place from (position (is_named name) tags)
-
-abbrev pub below_place : ℕ → Option ℕ → Result ℕ NoSuchTag
-below_place from None = Err Neighbour
-below_place from (Some at) = Ok (if nat_lt from at then at - 1 else at)
-
--- where a tag goes that is put just below another, or lowest
-abbrev pub place_below : ℕ → Option (List ℕ) → List Tag → Result ℕ NoSuchTag
-place_below from None tags = Ok 0
-place_below from (Some name) tags = below_place from (position (is_named name) tags)
+-- where a tag goes from a place in an order: the neighbour is known, and a name that moves there stands in the order
+pub record GoesTo (order : Order) (from : ℕ) (other : Option (List ℕ)) (tags : List Tag) (to : ℕ) : Type 0 where
+  pub neighbour : IfSome other (λ o. is_tag o tags ≡ true)
+  pub names : (name : List ℕ) → position (bytes_eq name) (names_of tags) ≡ Some from →
+      order (names_of tags) name other ≡ move_index (names_of tags) from to
+  pub within : to < length tags

@@ -1,35 +1,43 @@
--- Tags that move in the order of priority: `raise`, `lower`, and `delete`.
-use Rattle.std.specs.Prelude.{ℕ, Option, None, Some, Result, Ok, Err, List, [], ◌∷◌, ◌++◌, find, is_some, bytes_eq}
-use Rattle.std.specs.Prelude.{if◌then◌else◌}
+-- The order of tags by priority, from the lowest to the highest: `raise`, `lower`, and `delete`.
+use Rattle.std.specs.Prelude.{◌≡◌, ℕ, Bool, true, false, Option, None, Some, List, [], ◌∷◌, ◌++◌, length, bytes_eq}
+use Rattle.std.specs.Prelude.{if◌then◌else◌, IfSome, MatchOption}
+use Rattle.std.specs.List.{list_any}
 use Rattle.name_list.specs.Moves.{without, put_behind, put_before}
 use Rattle.tag_table.specs.declared.faults.NoSuchTag.{NoSuchTag}
 use Rattle.tag_table.specs.declared.faults.NoSuchTag.TheVariants.{Moved, Neighbour}
-use Rattle.tag_table.specs.Tags.{Tag, sel, is_named}
+use Rattle.tag_table.specs.Tags.{Tag, sel, is_named, names_of, slot_of}
 
--- a new order, if the neighbour is a tag; a tag stays where it is against itself
-abbrev pub next_to : List ℕ → List ℕ → List Tag → List Tag → Result (List Tag) NoSuchTag
-next_to name other tags new =
-    if is_some (find (is_named other) tags) then Ok (if bytes_eq name other then tags else new) else Err Neighbour
+-- the names in another order, by the name that moves and the one next to which it goes
+abbrev pub Order : Type 0
+Order = List (List ℕ) → List ℕ → Option (List ℕ) → List (List ℕ)
 
-abbrev pub raised_tag : Option Tag → List ℕ → Option (List ℕ) → List Tag → Result (List Tag) NoSuchTag
-raised_tag None name above tags = Err Moved
-raised_tag (Some tag) name None tags = Ok (without (is_named name) tags ++ tag ∷ [])
-raised_tag (Some tag) name (Some above) tags =
-    next_to name above tags (put_behind (is_named above) tag (without (is_named name) tags))
+-- the names with one highest, or just above another; against itself it stays where it is
+abbrev pub raised : List (List ℕ) → List ℕ → Option (List ℕ) → List (List ℕ)
+raised names name None = without (bytes_eq name) names ++ name ∷ []
+raised names name (Some other) =
+    if bytes_eq name other then names else put_behind (bytes_eq other) name (without (bytes_eq name) names)
 
--- the tags with one just above another, or highest
-abbrev pub raised : List ℕ → Option (List ℕ) → List Tag → Result (List Tag) NoSuchTag
-raised name above tags = raised_tag (find (is_named name) tags) name above tags
+-- the names with one lowest, or just below another; against itself it stays where it is
+abbrev pub lowered : List (List ℕ) → List ℕ → Option (List ℕ) → List (List ℕ)
+lowered names name None = name ∷ without (bytes_eq name) names
+lowered names name (Some other) =
+    if bytes_eq name other then names else put_before (bytes_eq other) name (without (bytes_eq name) names)
 
-abbrev pub lowered_tag : Option Tag → List ℕ → Option (List ℕ) → List Tag → Result (List Tag) NoSuchTag
-lowered_tag None name below tags = Err Moved
-lowered_tag (Some tag) name None tags = Ok (tag ∷ without (is_named name) tags)
-lowered_tag (Some tag) name (Some below) tags =
-    next_to name below tags (put_before (is_named below) tag (without (is_named name) tags))
+abbrev pub is_tag : List ℕ → List Tag → Bool
+is_tag name tags = list_any (bytes_eq name) (names_of tags)
 
--- the tags with one just below another, or lowest
-abbrev pub lowered : List ℕ → Option (List ℕ) → List Tag → Result (List Tag) NoSuchTag
-lowered name below tags = lowered_tag (find (is_named name) tags) name below tags
+-- the names are known, and the tags stand in the new order, each with its slot
+pub record IsOrdered (order : Order) (name : List ℕ) (other : Option (List ℕ)) (old new : List Tag) : Type 0 where
+  pub known : is_tag name old ≡ true
+  pub neighbour : IfSome other (λ o. is_tag o old ≡ true)
+  pub names : names_of new ≡ order (names_of old) name other
+  pub slots : (n : List ℕ) → slot_of n new ≡ slot_of n old
+  pub many : length new ≡ length old
+
+-- which of the names isn't known
+abbrev pub IsUnknown : List ℕ → Option (List ℕ) → List Tag → NoSuchTag → Type 0
+IsUnknown name other tags Moved = is_tag name tags ≡ false
+IsUnknown name other tags Neighbour = (is_tag name tags ≡ true) × MatchOption other ⊥ (λ o. is_tag o tags ≡ false)
 
 -- the tags without one; `sel` stays
 abbrev pub deleted : List ℕ → List Tag → List Tag

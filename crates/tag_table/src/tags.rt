@@ -1,10 +1,10 @@
 //! The tags of a text: their names in order of priority, and the slot of each.
 
 ghost use Rattle.std.specs.Prelude.{◌≡◌, ◌<◌, ◌≤◌, ◌↔◌, ◌∷◌, [], ◌++◌, length, take, slice_get, chars, string_bytes};
-ghost use Rattle.std.specs.Prelude.{None, Some, Ok, Err, IsNone, IfOk, IfErr, IfSome, OnOk, OnErr};
+ghost use Rattle.std.specs.Prelude.{false, None, Some, IsNone, IfOk, IfErr, IfSome, MatchOption, OnOk, OnErr};
 ghost use Rattle.std.specs.Option.{option_map};
-ghost use Rattle.tag_table.specs.Kept.{place_above, place_below, slot_of_number};
-ghost use Rattle.tag_table.specs.Priority.{raised, lowered, deleted};
+ghost use Rattle.tag_table.specs.Kept.{GoesTo, slot_of_number};
+ghost use Rattle.tag_table.specs.Priority.{raised, lowered, deleted, is_tag, IsOrdered, IsUnknown};
 ghost use Rattle.text_model.specs.declared.limits.TheConstants.Limits.{MOST_TAGS};
 ghost use Rattle.text_model.specs.TagBits.{slot_count};
 ghost use Rattle.tag_table.specs.Tags.{Tags, sel, names_of, slots_of, slot_of, IsFull, IsLeastFree, AreTags};
@@ -123,10 +123,10 @@ impl TagTable {
 
     /// Puts a tag just above another one, or highest. Against itself it stays where it is.
     pub fn raise(&mut self, name: &str, above: Option<&str>) -> Result<(), NoSuchTag>
-        ensures ok { IfOk result (λ _. raised (chars name.now) (option_map (λ other. chars other.now) above.entry)
-            self.old.tags ≡ Ok self.new.tags) }
-        ensures fault { IfErr result (λ fault.
-            raised (chars name.now) (option_map (λ other. chars other.now) above.entry) self.old.tags ≡ Err fault) }
+        ensures ok { OnOk result (IsOrdered raised (chars name.now) (option_map (λ other. chars other.now) above.entry)
+            self.old.tags self.new.tags) }
+        ensures fault { IfErr result (IsUnknown (chars name.now) (option_map (λ other. chars other.now) above.entry)
+            self.old.tags) }
         ensures err { OnErr result (self.new ≡ self.old) }
         ensures limit { self.new.limit ≡ self.old.limit }
         ensures sound { OnOk result (AreTags self.new) }
@@ -141,10 +141,10 @@ impl TagTable {
 
     /// Puts a tag just below another one, or lowest. Against itself it stays where it is.
     pub fn lower(&mut self, name: &str, below: Option<&str>) -> Result<(), NoSuchTag>
-        ensures ok { IfOk result (λ _. lowered (chars name.now) (option_map (λ other. chars other.now) below.entry)
-            self.old.tags ≡ Ok self.new.tags) }
-        ensures fault { IfErr result (λ fault.
-            lowered (chars name.now) (option_map (λ other. chars other.now) below.entry) self.old.tags ≡ Err fault) }
+        ensures ok { OnOk result (IsOrdered lowered (chars name.now) (option_map (λ other. chars other.now) below.entry)
+            self.old.tags self.new.tags) }
+        ensures fault { IfErr result (IsUnknown (chars name.now) (option_map (λ other. chars other.now) below.entry)
+            self.old.tags) }
         ensures err { OnErr result (self.new ≡ self.old) }
         ensures limit { self.new.limit ≡ self.old.limit }
         ensures sound { OnOk result (AreTags self.new) }
@@ -159,12 +159,13 @@ impl TagTable {
 
     /// Takes a tag out. Its slot is free again. `sel` stays, and an unknown name is skipped.
     pub fn delete(&mut self, name: &str)
-        ensures { self.new ≡ record self.old { tags = deleted (chars name.now) self.old.tags } }
+        ensures value { self.new ≡ record self.old { tags = deleted (chars name.now) self.old.tags } }
+        ensures sound { AreTags self.old × AreTags self.new }
     {
-        if name == SEL {
+        let Some(place) = self.names.place(name) else {
             return;
-        }
-        if let Some(place) = self.names.place(name) {
+        };
+        if name != SEL {
             self.names.remove(place);
         }
     }
@@ -180,8 +181,10 @@ impl TagTable {
     // Where the tag at `from` goes to stand just above another one, or highest.
     fn place_above(&self, from: usize, above: Option<&str>) -> Result<usize, NoSuchTag>
         requires { from < length self.now.tags }
-        ensures place { result ≡ place_above from (option_map (λ other. chars other.now) above.entry) self.now.tags }
-        ensures within { IfOk result (λ to. to < length self.now.tags) }
+        ensures goes { IfOk result (GoesTo raised from (option_map (λ other. chars other.now) above.entry)
+            self.now.tags) }
+        ensures fault { IfErr result (λ fault. (fault ≡ NoSuchTag.Neighbour)
+            × MatchOption (option_map (λ other. chars other.now) above.entry) ⊥ (λ o. is_tag o self.now.tags ≡ false)) }
     {
         let Some(other) = above else {
             return Ok(self.names.len() - 1);
@@ -195,8 +198,10 @@ impl TagTable {
     // Where the tag at `from` goes to stand just below another one, or lowest.
     fn place_below(&self, from: usize, below: Option<&str>) -> Result<usize, NoSuchTag>
         requires { from < length self.now.tags }
-        ensures place { result ≡ place_below from (option_map (λ other. chars other.now) below.entry) self.now.tags }
-        ensures within { IfOk result (λ to. to < length self.now.tags) }
+        ensures goes { IfOk result (GoesTo lowered from (option_map (λ other. chars other.now) below.entry)
+            self.now.tags) }
+        ensures fault { IfErr result (λ fault. (fault ≡ NoSuchTag.Neighbour)
+            × MatchOption (option_map (λ other. chars other.now) below.entry) ⊥ (λ o. is_tag o self.now.tags ≡ false)) }
     {
         let Some(other) = below else {
             return Ok(0);

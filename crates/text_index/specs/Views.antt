@@ -1,6 +1,6 @@
 -- The part of a text that a view shows: from one offset to another.
-use Rattle.std.specs.Prelude.{option_and_then, ℕ, ◌≤◌, nat_lt, nat_le, min, ◌-◌, Bool, ◌&&◌, List, slice_range}
-use Rattle.std.specs.Prelude.{Option, None, Some, if◌then◌else◌}
+use Rattle.std.specs.Prelude.{option_and_then, ℕ, ◌<◌, ◌≤◌, ◌^◌, nat_lt, nat_le, min, ◌-◌, Bool, ◌&&◌, List}
+use Rattle.std.specs.Prelude.{slice_range, Option, None, Some, if◌then◌else◌}
 use Rattle.std.specs.FinMap as finite
 use Rattle.text_model.specs.Content.{Content, characters, flags}
 use Rattle.text_model.specs.Lines.{IsLineStart}
@@ -15,9 +15,10 @@ shown content start end = slice_range (characters content.cells) start end
 abbrev pub shown_flags : ℕ → Content → ℕ → ℕ → List Bool
 shown_flags slot content start end = slice_range (flags slot content.cells) start end
 
--- whole lines of the text
+-- whole lines of the text, up to an offset that fits a usize
 pub record IsView (content : Content) (start end : ℕ) : Type 0 where
   pub ordered : start ≤ end
+  pub fits : end < 2 ^ 64
   pub first : IsLineStart (characters content.cells) start
   pub behind : IsLineStart (characters content.cells) end
 

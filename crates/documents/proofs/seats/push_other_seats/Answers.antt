@@ -1,5 +1,6 @@
 use Rattle.documents.proofs.Common.{◌+◌, List, Bool, ℕ, [], ◌∷◌, sym, subst, ap, ◌∙◌, chars, filter, not, string_bytes}
-use Rattle.documents.proofs.Common.{take, same_Some, is_same, Goes, names_of}
+use Rattle.documents.proofs.Common.{take, same_Some, is_same, Goes}
+use Rattle.name_list.specs.Names.{names_of}
 use Rattle.documents.proofs.SeatLaws.{goes_failing, goes_passing}
 use Rattle.documents.proofs.seats.push_other_seats.Goals.{then-not-is_word+in_ok-push_element, else-not-is_word}
 use Rattle.documents.proofs.seats.push_other_seats.Goals as goal

@@ -1,4 +1,5 @@
-use Rattle.documents.proofs.Common.{is_same, Goes, chars, filter, not, string_bytes, take, names_of}
+use Rattle.documents.proofs.Common.{is_same, Goes, chars, filter, not, string_bytes, take}
+use Rattle.name_list.specs.Names.{names_of}
 use Rattle.documents.proofs.seats.push_other_seats.Given as goal
 
 abbrev pub invariant-loop-place : goal.invariant-loop-place

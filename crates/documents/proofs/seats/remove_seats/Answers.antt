@@ -7,10 +7,10 @@ loop-place-preserved-then-is_among c =
     let names = texts_of c.args.names.now in
     let place = c.loop-place.place in
     let seats = c.loop-place.seats.entries in (
-      ap (λ (s : Names). left_from names place s.entries) c.remove.ensures
+      ap (λ (s : Names). left_from names place s.entries) c.remove.ensures.value
           ∙ left-removed seats names place (chars c.name.result.now) c.name.ensures (sym c.is_among.ensures
           ∙ c.if-is_among.true) ∙ c.loop-place.invariant.0,
-      ap (λ (s : Names). s.limit) c.remove.ensures ∙ c.loop-place.invariant.1,
+      ap (λ (s : Names). s.limit) c.remove.ensures.value ∙ c.loop-place.invariant.1,
     )
 
 pub loop-place-preserved : goal.loop-place-preserved

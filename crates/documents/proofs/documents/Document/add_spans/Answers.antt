@@ -5,7 +5,7 @@ use Rattle.documents.proofs.ChangeLaws.{Leaves, leaves-left}
 use Rattle.documents.proofs.InsertionLaws.{stands-back}
 use Rattle.documents.proofs.PartsLaws.{cells-kept, sits, stand}
 use Rattle.documents.proofs.SpanLaws.{added-left, found_by, leaves-added}
-use Rattle.documents.proofs.SpanToldLaws.{foretells-added}
+use Rattle.documents.proofs.TagCommandLaws.{foretells-added}
 use Rattle.documents.proofs.TableLaws.{relogged, retagged}
 use Rattle.documents.proofs.ToldLaws.{told-made}
 use Rattle.documents.proofs.documents.Document.add_spans.Given.{Over}

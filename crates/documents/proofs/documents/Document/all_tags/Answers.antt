@@ -1,5 +1,4 @@
-use Rattle.documents.proofs.Common.{ap, ◌∙◌, list_text}
-use Rattle.tag_table.specs.Tags.{names_of}
+use Rattle.documents.proofs.Common.{ap, ◌∙◌, list_text, names_of}
 use Rattle.documents.proofs.ListedLaws.{listed, tags-listed}
 use Rattle.documents.proofs.PartsLaws.{stand}
 use Rattle.documents.proofs.documents.Document.all_tags.Goals as goal

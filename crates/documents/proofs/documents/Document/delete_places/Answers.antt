@@ -1,9 +1,8 @@
 use Rattle.documents.proofs.Common.{◌≡◌, ap, ◌∙◌, All, LimitTable, Ok, Empty, SpanFits, deleted, log_of, state_of}
 use Rattle.documents.proofs.Common.{delete_places, spans_shown, widget_at, parts_of, recording_of, Content, Document}
 use Rattle.documents.proofs.Common.{map, sym, Span, State, deletion, runs_below, delete_set, in_spans, deletions_in}
-use Rattle.documents.proofs.Common.{Stands, refl, edit_fault, IfOk-from_err}
+use Rattle.documents.proofs.Common.{Stands, refl, edit_fault, IfOk-from_err, planned-made, told-planned}
 use Rattle.documents.proofs.ChangeLaws.{Leaves, some_limits}
-use Rattle.documents.proofs.DeltaLaws.{planned-made, told-planned}
 use Rattle.documents.proofs.PartsLaws.{anchors-there, cells-kept, characters-kept, pairs_of, stand}
 use Rattle.documents.proofs.RemovalLaws.{leaves-places}
 use Rattle.documents.proofs.SpanLaws.{places-within, spans-in}

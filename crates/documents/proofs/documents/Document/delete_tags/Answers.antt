@@ -8,16 +8,16 @@ use Rattle.documents.proofs.documents.Document.delete_tags.Goals as goal
 pub invariant_of-self-2 : goal.invariant_of-self-2
 invariant_of-self-2 g c =
     rw c.in_ok-clear_slots.ensures.anchors (leaves-deleted some_limits (texts_of c.args.names.now)
-    (stand c.self.invariant c.self.view_is) c.len-count.ensures.sound c.delete_names.ensures
-    (ap (map (λ (slot : TagSlot). slot.0)) c.deref.ensures.value ∙ c.in_ok-slots.ensures.value) c.in_ok-clear_slots.ensures.ok
-    c.in_ok-clear_slots.ensures.log).sound
+    (stand c.self.invariant c.self.view_is) c.delete_names.ensures.sound c.delete_names.ensures.value
+    (ap (map (λ (slot : TagSlot). slot.0)) c.deref.ensures.value ∙ c.in_ok-slots.ensures.value)
+    c.in_ok-clear_slots.ensures.ok c.in_ok-clear_slots.ensures.log).sound
 
 pub returns-clause-does : goal.returns-clause-does
 returns-clause-does g c = λ limits.
     rw c.in_ok-clear_slots.ensures.anchors (leaves-deleted limits (texts_of c.args.names.now)
-    (stand c.self.invariant c.self.view_is) c.len-count.ensures.sound c.delete_names.ensures
-    (ap (map (λ (slot : TagSlot). slot.0)) c.deref.ensures.value ∙ c.in_ok-slots.ensures.value) c.in_ok-clear_slots.ensures.ok
-    c.in_ok-clear_slots.ensures.log).does
+    (stand c.self.invariant c.self.view_is) c.delete_names.ensures.sound c.delete_names.ensures.value
+    (ap (map (λ (slot : TagSlot). slot.0)) c.deref.ensures.value ∙ c.in_ok-slots.ensures.value)
+    c.in_ok-clear_slots.ensures.ok c.in_ok-clear_slots.ensures.log).does
 
 pub returns-clause-told : goal.returns-clause-told
 returns-clause-told g c = λ follows.

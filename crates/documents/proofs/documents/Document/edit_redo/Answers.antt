@@ -1,11 +1,10 @@
 use Rattle.documents.proofs.Common.{box_value, ◌≡◌, ◌*◌, Some, Empty, Ok, ap, sym, subst, ◌∙◌, next_redo, Action, false}
 use Rattle.documents.proofs.Common.{List, log_of, state_of, widget_at, parts_of, edit_redo, replays, IfSome, length}
 use Rattle.documents.proofs.Common.{AreHunks, Content, is_some, Document, not, State, some_is, KnowsDelta, AreScalars}
-use Rattle.documents.proofs.Common.{IfOk-from_err, Stands, refl, NothingToRedo}
+use Rattle.documents.proofs.Common.{IfOk-from_err, Stands, refl, NothingToRedo, known-stand, planned-made, told-planned}
 use Rattle.edit_ops.specs.Reversals.{redone}
 use Rattle.documents.proofs.BackLaws.{redo-idle, redo-none, redo-off}
 use Rattle.documents.proofs.ChangeLaws.{Leaves, does-left, does-nothing}
-use Rattle.documents.proofs.DeltaLaws.{known-stand, planned-made, told-planned}
 use Rattle.documents.proofs.PartsLaws.{pairs_of, sits, stand}
 use Rattle.documents.proofs.ReversalLaws.{CanRevert, leaves-redone, redone-edits}
 use Rattle.documents.proofs.StateLaws.{anchors-stand, stands-unedited, state_in, with_state}

@@ -1,11 +1,10 @@
 use Rattle.documents.proofs.Common.{box_value, ◌≡◌, ◌*◌, Some, Empty, Ok, ap, sym, subst, ◌∙◌, next_undo, Action, true}
 use Rattle.documents.proofs.Common.{List, log_of, state_of, widget_at, parts_of, edit_undo, replays, IfSome, length}
 use Rattle.documents.proofs.Common.{AreHunks, Content, is_some, Document, not, State, some_is, KnowsDelta, AreScalars}
-use Rattle.documents.proofs.Common.{IfOk-from_err, NothingToUndo, Stands, refl}
+use Rattle.documents.proofs.Common.{IfOk-from_err, NothingToUndo, Stands, refl, known-stand, planned-made, told-planned}
 use Rattle.edit_ops.specs.Reversals.{undone}
 use Rattle.documents.proofs.BackLaws.{undo-idle, undo-none, undo-off}
 use Rattle.documents.proofs.ChangeLaws.{Leaves, does-left, does-nothing}
-use Rattle.documents.proofs.DeltaLaws.{known-stand, planned-made, told-planned}
 use Rattle.documents.proofs.PartsLaws.{pairs_of, sits, stand}
 use Rattle.documents.proofs.ReversalLaws.{CanRevert, leaves-undone, undone-edits}
 use Rattle.documents.proofs.StateLaws.{anchors-stand, stands-unedited, state_in, with_state}

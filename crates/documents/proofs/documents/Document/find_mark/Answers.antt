@@ -18,8 +18,8 @@ returns-in_err-place g c =
     let word = chars c.args.name.now in
     let known : number_of word c.self.inside.marks.marks ≡ Some c.in_ok-number.number.0 = sym c.find.ensures
     ∙ ap (option_map (λ (n : MarkNo). n.0)) c.in_ok-number.was in
-    absurd (c.in_err-place.ensures (number-there (stand c.self.invariant c.self.view_is) word c.in_ok-number.number.0
-    known))
+    absurd (c.in_err-place.ensures.value (number-there (stand c.self.invariant c.self.view_is) word
+    c.in_ok-number.number.0 known))
 
 pub returns : goal.returns
 returns g c =
@@ -28,4 +28,4 @@ returns g c =
     let known : number_of word c.self.inside.marks.marks ≡ Some c.in_ok-number.number.0 = sym c.find.ensures
     ∙ ap (option_map (λ (n : MarkNo). n.0)) c.in_ok-number.was in
     number-known (stand c.self.invariant c.self.view_is) word c.in_ok-number.number.0 c.in_ok-place.field-0 shared known
-    c.in_ok-place.ensures
+    c.in_ok-place.ensures.value

@@ -1,9 +1,8 @@
 use Rattle.documents.proofs.Common.{ap, ◌∙◌, arith, map, take, sel, slot_of, inserted_texts, log_of, Ok, Empty}
 use Rattle.documents.proofs.Common.{state_of, piece_of, widget_at, parts_of, Stands, insert_at, length, key_pairs}
-use Rattle.documents.proofs.Common.{Content, State, refl, Memory}
+use Rattle.documents.proofs.Common.{Content, State, refl, Memory, planned-made, taken-stand, told-planned}
 use Rattle.undo_stack.specs.declared.actions.EditKind.TheVariants.{Insert}
 use Rattle.documents.proofs.ChangeLaws.{Leaves, does-left, leaves-left}
-use Rattle.documents.proofs.DeltaLaws.{planned-made, taken-stand, told-planned}
 use Rattle.documents.proofs.InsertionLaws.{leaves-put, put-left, stands-back, with_tags}
 use Rattle.documents.proofs.PartsLaws.{cells-kept, sits, stand}
 use Rattle.documents.proofs.PlannedLaws.{insertion-edits, keyed-before}

@@ -1,5 +1,6 @@
 use Rattle.documents.proofs.Common.{◌≤◌, ◌∙◌, ◌++◌, List, ℕ, length, map, arith, ap, sym, chars, take_all, texts_of}
-use Rattle.documents.proofs.Common.{length-map, Named, window_names, names_of, parts_of, gone}
+use Rattle.documents.proofs.Common.{length-map, Named, window_names, parts_of, gone}
+use Rattle.name_list.specs.Names.{names_of}
 use Rattle.documents.proofs.DroppedMarksLaws.{dropped-more, dropped-past, going}
 use Rattle.documents.proofs.ListedMarksLaws.{own_listed}
 use Rattle.documents.proofs.WellFormedLaws.{windows-kept}

@@ -1,4 +1,5 @@
-use Rattle.documents.proofs.Common.{◌≡◌, ◌++◌, map, take, texts_of, names_of, gone}
+use Rattle.documents.proofs.Common.{◌≡◌, ◌++◌, map, take, texts_of, gone}
+use Rattle.name_list.specs.Names.{names_of}
 use Rattle.documents.proofs.DroppedMarksLaws.{going}
 use Rattle.documents.proofs.ListedMarksLaws.{own_listed}
 use Rattle.documents.proofs.documents.Document.list_dropped.Given as goal

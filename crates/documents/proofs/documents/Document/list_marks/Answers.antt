@@ -1,5 +1,6 @@
 use Rattle.documents.proofs.Common.{◌≤◌, ◌++◌, ◌∙◌, ℕ, List, arith, ap, sym, map, length, take_all, append-nil}
-use Rattle.documents.proofs.Common.{length-map, chars, Named, Mark, watched, MarkKey, names_of}
+use Rattle.documents.proofs.Common.{length-map, chars, Named, Mark, watched, MarkKey}
+use Rattle.name_list.specs.Names.{names_of}
 use Rattle.mark_table.specs.SharedMarks.{names_of as mark_names}
 use Rattle.documents.proofs.ListedMarksLaws.{keys-kept, own-more, own_listed, shared-more, shared_listed}
 use Rattle.documents.proofs.PartsLaws.{stand}

@@ -1,4 +1,5 @@
-use Rattle.documents.proofs.Common.{◌≡◌, ◌++◌, map, take, watched, names_of}
+use Rattle.documents.proofs.Common.{◌≡◌, ◌++◌, map, take, watched}
+use Rattle.name_list.specs.Names.{names_of}
 use Rattle.mark_table.specs.SharedMarks.{names_of as mark_names}
 use Rattle.documents.proofs.ListedMarksLaws.{own_listed, shared_listed}
 use Rattle.documents.proofs.documents.Document.list_marks.Given as goal

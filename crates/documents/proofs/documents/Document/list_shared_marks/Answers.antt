@@ -1,7 +1,6 @@
 use Rattle.documents.proofs.Common.{ℕ, Bool, [], take, subst, sym, ap, is_at, list_any, contains, nat_cmp, take_all}
-use Rattle.documents.proofs.Common.{texts_of, AreListed}
+use Rattle.documents.proofs.Common.{texts_of, AreListed, texts-more}
 use Rattle.documents.proofs.ListedMarksLaws.{listed-none, listed-watched-all, unset-others}
-use Rattle.documents.proofs.MarksToldLaws.{texts-more}
 use Rattle.documents.proofs.PartsLaws.{stand}
 use Rattle.documents.proofs.documents.Document.list_shared_marks.Goals as goal
 

@@ -1,9 +1,7 @@
 use Rattle.documents.proofs.Common.{sym, subst, chars, option_map, LimitTable, Result, Moved, Neighbour, Answer, Fault}
-use Rattle.documents.proofs.Common.{parts_of, lowered, reordered}
+use Rattle.documents.proofs.Common.{parts_of, lowered, reordered, IsUnknown}
 use Rattle.documents.proofs.ChangeLaws.{Leaves, some_limits}
-use Rattle.documents.proofs.OrderLaws.{length-lowered, lowered-ordered}
 use Rattle.documents.proofs.PartsLaws.{stand}
-use Rattle.documents.proofs.ReorderLaws.{IsUnknown, lowered-unknown}
 use Rattle.documents.proofs.TagLaws.{does-unordered, leaves-ordered}
 use Rattle.documents.proofs.documents.Document.lower.Given.{Over}
 use Rattle.documents.proofs.documents.Document.lower.Goals.{Joined-lower, in-Ok, in-Err-Moved, in-Err-Neighbour}
@@ -26,23 +24,16 @@ left g c limits =
     Leaves limits (record parts { tags = new }) document result
     (reordered document c.args.position lowered (word, other)) in
     elim c.match-lower.branch [
-      | in-Ok w ↦
-          let ordered = lowered-ordered word other old.tags.tags new.tags stands.sound.kept.tags.names_apart
-          w.in-Ok.ensures.ok in
-          subst P (sym w.result-is) (leaves-ordered limits parts new document c.args.position lowered word other
-          stands ordered w.in-Ok.ensures.sound w.in-Ok.ensures.limit
-          (length-lowered _ word other ordered.known))
+      | in-Ok w ↦ subst P (sym w.result-is) (leaves-ordered limits parts new document c.args.position lowered word other
+          stands w.in-Ok.ensures.ok w.in-Ok.ensures.sound w.in-Ok.ensures.limit)
       | in-Err-Moved w ↦ subst P (sym w.result-is)
           (does-unordered limits parts new document c.args.position lowered word other Moved stands
           w.in-Err-Moved.ensures.err
-          (subst (IsUnknown word other old.tags.tags) w.in-Err-Moved.field-0-is
-          (lowered-unknown word other old.tags.tags w.in-Err-Moved.field-0 w.in-Err-Moved.ensures.fault)))
+          (subst (IsUnknown word other old.tags.tags) w.in-Err-Moved.field-0-is w.in-Err-Moved.ensures.fault))
       | in-Err-Neighbour w ↦ subst P (sym w.result-is)
           (does-unordered limits parts new document c.args.position lowered word other Neighbour stands
           w.in-Err-Neighbour.ensures.err
-          (subst (IsUnknown word other old.tags.tags) w.in-Err-Neighbour.field-0-is
-          (lowered-unknown word other old.tags.tags w.in-Err-Neighbour.field-0
-          w.in-Err-Neighbour.ensures.fault)))
+          (subst (IsUnknown word other old.tags.tags) w.in-Err-Neighbour.field-0-is w.in-Err-Neighbour.ensures.fault))
     ]
 
 pub invariant_of-self : goal.invariant_of-self

@@ -1,5 +1,5 @@
-use Rattle.documents.proofs.Common.{arith}
-use Rattle.documents.proofs.MarkOrderLaws.{answer-found, next-shifted}
+use Rattle.documents.proofs.Common.{arith, next-shifted}
+use Rattle.documents.proofs.MarkOrderLaws.{answer-found}
 use Rattle.documents.proofs.PartsLaws.{anchors-there, stand}
 use Rattle.mark_table.specs.Order as order
 use Rattle.documents.proofs.documents.Document.next_mark.Goals as goal

@@ -1,4 +1,5 @@
-use Rattle.documents.proofs.Common.{ap, ◌∙◌, chars, filter, not, list_text, is_same, names_of}
+use Rattle.documents.proofs.Common.{ap, ◌∙◌, chars, filter, not, list_text, is_same}
+use Rattle.name_list.specs.Names.{names_of}
 use Rattle.documents.proofs.ListedLaws.{listed}
 use Rattle.documents.proofs.PartsLaws.{stand}
 use Rattle.documents.proofs.WidgetLaws.{others-kept}

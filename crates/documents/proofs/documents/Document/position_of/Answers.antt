@@ -1,6 +1,5 @@
-use Rattle.documents.proofs.Common.{◌++◌, ap, ◌∙◌, chars, chars-nil}
+use Rattle.documents.proofs.Common.{◌++◌, ap, ◌∙◌, chars, chars-nil, position_text}
 use Rattle.text_index.specs.Views.{shown}
-use Rattle.text_index.specs.Positions.{position_text}
 use Rattle.documents.proofs.documents.Document.position_of.Goals as goal
 
 pub returns : goal.returns

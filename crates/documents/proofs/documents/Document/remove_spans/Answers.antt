@@ -5,7 +5,7 @@ use Rattle.documents.proofs.ChangeLaws.{Leaves, some_limits}
 use Rattle.documents.proofs.StateLaws.{stands-unedited, with_state}
 use Rattle.documents.proofs.PartsLaws.{cells-kept, sits, stand}
 use Rattle.documents.proofs.SpanLaws.{does-remove_none, leaves-removed}
-use Rattle.documents.proofs.SpanToldLaws.{foretells-removed}
+use Rattle.documents.proofs.TagCommandLaws.{foretells-removed}
 use Rattle.documents.proofs.TableLaws.{relogged, retagged}
 use Rattle.documents.proofs.ToldLaws.{does-refused, told-made}
 use Rattle.documents.proofs.documents.Document.remove_spans.Given.{Over}

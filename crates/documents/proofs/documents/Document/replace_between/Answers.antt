@@ -1,13 +1,12 @@
 use Rattle.documents.proofs.Common.{◌+◌, ◌-◌, ◌*◌, ap, ◌∙◌, arith, map, take, sel, slot_of, log_of, Ok, Empty, state_of}
 use Rattle.documents.proofs.Common.{piece_of, widget_at, parts_of, Stands, length, Content, State, key_pairs}
-use Rattle.documents.proofs.Common.{insertion_offset, refl, Memory}
+use Rattle.documents.proofs.Common.{insertion_offset, refl, Memory, planned-made, taken-stand, told-planned}
 use Rattle.edit_ops.specs.Removals.{replaced}
 use Rattle.documents.proofs.ChangeLaws.{Leaves, does-left, leaves-left}
 use Rattle.documents.proofs.InsertionLaws.{stands-back, with_tags}
 use Rattle.documents.proofs.PartsLaws.{anchors-there, characters-kept, stand}
 use Rattle.documents.proofs.ReplacementLaws.{cut-at, leaves-replaced, replace-left, replaced_at}
 use Rattle.documents.proofs.StateLaws.{anchors-stand, state_in, with_state}
-use Rattle.documents.proofs.DeltaLaws.{planned-made, taken-stand, told-planned}
 use Rattle.documents.proofs.PlannedLaws.{keyed-before, replacement-edits}
 use Rattle.documents.proofs.ViewLaws.{IsSeen, active-found, ends-found, length-found, ordered-found, see-ends}
 use Rattle.documents.proofs.documents.Document.replace_between.Given.{Over}

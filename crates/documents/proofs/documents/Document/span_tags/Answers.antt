@@ -1,9 +1,9 @@
 use Rattle.documents.proofs.Common.{◌≡◌, ◌+◌, ◌≤◌, length, refl, sym, subst, ◌∙◌, chars, length-map, All-weaker, flags}
 use Rattle.documents.proofs.Common.{SpanFits, Span, KeyedCell, widget_at, with_tag, parts_of, Stands, key_of, AreGapped}
-use Rattle.documents.proofs.Common.{TellsSpans, TellsTags, flags_of, AreApart, true≢false, IfOk-from_err}
-use Rattle.documents.proofs.AddedRunLaws.{gapped-alone}
+use Rattle.documents.proofs.Common.{TellsSpans, TellsTags, flags_of, AreApart, true≢false, IfOk-from_err, runs-told}
+use Rattle.reports.proofs.AddedRunLaws.{gapped-alone}
 use Rattle.documents.proofs.PartsLaws.{cells-kept, sits}
-use Rattle.documents.proofs.SpanToldLaws.{runs-told, seen-flags, seen-named, seen-none}
+use Rattle.documents.proofs.TagCommandLaws.{seen-flags, seen-named, seen-none}
 use Rattle.documents.proofs.documents.Document.span_tags.Goals.{in-Some+in_ok-push_spans-in-Some}
 use Rattle.documents.proofs.documents.Document.span_tags.Goals.{in-None+in_ok-push_whole-in-None}
 use Rattle.std.specs.FinSet as set

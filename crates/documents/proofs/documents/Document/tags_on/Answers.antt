@@ -1,6 +1,5 @@
 use Rattle.documents.proofs.Common.{ap, ◌∙◌, arith, chars-nil, list_text, Tag, own_slot, widget_at, parts_of, chars}
-use Rattle.documents.proofs.Common.{filter}
-use Rattle.tag_table.specs.Tags.{names_of}
+use Rattle.documents.proofs.Common.{filter, names_of}
 use Rattle.documents.proofs.ListedLaws.{listed}
 use Rattle.documents.proofs.PartsLaws.{anchors-there, stand}
 use Rattle.documents.proofs.TaggedLaws.{tags_on-end, tags_on-known}

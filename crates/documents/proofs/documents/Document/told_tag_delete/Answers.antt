@@ -1,5 +1,5 @@
 use Rattle.documents.proofs.Common.{map, sym, subst, texts_of, Document, tag_delete, without_tags, TellsTags, Foretells}
-use Rattle.documents.proofs.ToldLaws.{tags-alone}
+use Rattle.documents.proofs.Common.{tags-alone}
 use Rattle.documents.proofs.documents.Document.told_tag_delete.Goals as goal
 
 pub returns : goal.returns

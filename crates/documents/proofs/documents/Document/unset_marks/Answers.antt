@@ -13,12 +13,13 @@ invariant_of-self g c =
 pub invariant_of-self-2 : goal.invariant_of-self-2
 invariant_of-self-2 g c =
     (leaves-unset some_limits (texts_of c.args.names.now) (stand c.self.invariant c.self.view_is)
-    c.len-count.ensures.sound c.unset_names.ensures
+    c.unset_names.ensures.sound c.unset_names.ensures.value
     (ap (map (λ (number : MarkNo). number.0)) c.deref.ensures.value ∙ c.in_ok-numbers.ensures)
     c.in_ok-take_marks.ensures.ok).sound
 
 pub returns : goal.returns
 returns g c = λ limits.
     (leaves-unset limits (texts_of c.args.names.now) (stand c.self.invariant c.self.view_is)
-    c.len-count.ensures.sound c.unset_names.ensures
-    (ap (map (λ (number : MarkNo). number.0)) c.deref.ensures.value ∙ c.in_ok-numbers.ensures) c.in_ok-take_marks.ensures.ok).does
+    c.unset_names.ensures.sound c.unset_names.ensures.value
+    (ap (map (λ (number : MarkNo). number.0)) c.deref.ensures.value ∙ c.in_ok-numbers.ensures)
+    c.in_ok-take_marks.ensures.ok).does

@@ -1,10 +1,9 @@
 use Rattle.mark_table.proofs.Common.{◌≡◌, ℕ, List, refl, ap, sym, ◌∙◌, ◌++◌, ◌∷◌, [], ◌+◌, subst, slice_set, chars}
 use Rattle.mark_table.proofs.Common.{string_bytes, without, Names, Gravity, Right, AreKept, marks_kept}
 use Rattle.mark_table.proofs.Common.{with_gravity_for, Mark, SharedMarks, is_named, number_of, numbers_of, first_number}
-use Rattle.mark_table.proofs.Common.{IsLeastFree}
-use Rattle.std.specs.Option.{IsNone}
-use Rattle.mark_table.proofs.MarkLaws.{AreMarks-kept, no_place, place_of_mark, marks-back, marks-push, marks-placed, placed}
-use Rattle.mark_table.proofs.MarkLaws.{least_within, AreKept-push, IsLeastFree-number}
+use Rattle.mark_table.proofs.Common.{IsLeastFree, IsNone}
+use Rattle.mark_table.proofs.MarkLaws.{AreMarks-kept, no_place, place_of_mark, marks-back, marks-push, marks-placed}
+use Rattle.mark_table.proofs.MarkLaws.{placed, least_within, AreKept-push, IsLeastFree-number}
 use Rattle.name_list.specs.Names as list
 use Rattle.mark_table.proofs.marks.MarkTable.create.Goals as goal
 

@@ -1,4 +1,5 @@
-use Rattle.mark_table.proofs.Common.{ap, sym, slice_set, length-set, ◌∙◌, ◌<◌, length, arith, chars, is_some, SharedMarks, turned}
+use Rattle.mark_table.proofs.Common.{ap, sym, slice_set, length-set, ◌∙◌, ◌<◌, length, arith, chars, is_some}
+use Rattle.mark_table.proofs.Common.{SharedMarks, turned}
 use Rattle.mark_table.proofs.MarkLaws.{AreMarks-kept, place_of_mark, no_gravity, gravity_known, marks-turned}
 use Rattle.mark_table.proofs.marks.MarkTable.set_gravity.Goals as goal
 

@@ -1,25 +1,28 @@
-use Rattle.tag_table.proofs.Common.{ap, sym, ◌∙◌, Ok, if◌then◌else◌, lt-ltb, le-ltb, ◌-◌, option_map, chars}
-use Rattle.tag_table.proofs.TagLaws.{place_of_tag, below_is}
+use Rattle.tag_table.proofs.Common.{◌∙◌, refl, arith, nat_tests, chars, None}
+use Rattle.tag_table.proofs.TagLaws.{place_of_tag, placed, goes-lowest, goes-below}
 use Rattle.tag_table.proofs.tags.TagTable.place_below.Goals as goal
 
-pub returns-in_default-place-clause-place : goal.returns-in_default-place-clause-place
-returns-in_default-place-clause-place c =
-    let at = place_of_tag _ c.self.inside.names c.args.self.now _ c.self.view_is c.place.ensures.value
-    ∙ c.in_default-place.is in
-    sym (below_is c.args.from _ _ _ c.args.self.now.tags (ap (option_map (λ other. chars other.now)) c.in-Some.is) at)
+pub returns-in_default-clause-goes : goal.returns-in_default-clause-goes
+returns-in_default-clause-goes c = rw c.in_default.is (goes-lowest c.args.from c.args.self.now.tags c.requires)
 
-pub returns-then-from-at-clause-place : goal.returns-then-from-at-clause-place
-returns-then-from-at-clause-place c =
+pub returns-in_default-place-clause-fault : goal.returns-in_default-place-clause-fault
+returns-in_default-place-clause-fault c = (
+  refl,
+  rw c.in-Some.is (placed (chars c.in-Some.other.now) c.args.self.now.tags None
+      (place_of_tag _ c.self.inside.names c.args.self.now _ c.self.view_is c.place.ensures.value
+      ∙ c.in_default-place.is)),
+)
+
+pub returns-then-from-at-clause-goes : goal.returns-then-from-at-clause-goes
+returns-then-from-at-clause-goes c =
     let at = place_of_tag _ c.self.inside.names c.args.self.now _ c.self.view_is c.place.ensures.value
     ∙ c.in-Some-place.is in
-    ap (λ b. Ok (if b then c.in-Some-place.at - 1 else c.in-Some-place.at)) (sym (lt-ltb _ _ c.if-from-at.true))
-    ∙ sym (below_is c.args.from _ _ _ c.args.self.now.tags (ap (option_map (λ other. chars other.now)) c.in-Some.is)
-    at)
+    rw c.in-Some.is (goes-below c.args.from c.in-Some-place.at _ (chars c.in-Some.other.now) c.args.self.now.tags
+    c.requires at (grind (arith, nat_tests)))
 
-pub returns-else-from-at-clause-place : goal.returns-else-from-at-clause-place
-returns-else-from-at-clause-place c =
+pub returns-else-from-at-clause-goes : goal.returns-else-from-at-clause-goes
+returns-else-from-at-clause-goes c =
     let at = place_of_tag _ c.self.inside.names c.args.self.now _ c.self.view_is c.place.ensures.value
     ∙ c.in-Some-place.is in
-    ap (λ b. Ok (if b then c.in-Some-place.at - 1 else c.in-Some-place.at)) (sym (le-ltb _ _ c.if-from-at.false))
-    ∙ sym (below_is c.args.from _ _ _ c.args.self.now.tags (ap (option_map (λ other. chars other.now)) c.in-Some.is)
-    at)
+    rw c.in-Some.is (goes-below c.args.from c.in-Some-place.at _ (chars c.in-Some.other.now) c.args.self.now.tags
+    c.requires at (grind (arith, nat_tests)))

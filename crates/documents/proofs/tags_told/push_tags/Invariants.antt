@@ -1,7 +1,0 @@
-use Rattle.documents.proofs.Common.{map, filter, take, is_shared, tag_pair, AreRising, TellsRuns}
-use Rattle.documents.proofs.tags_told.push_tags.Given as goal
-
-abbrev pub invariant-loop-place : goal.invariant-loop-place
-invariant-loop-place l =
-    AreRising 0 l.runs
-    → TellsRuns (map tag_pair (filter is_shared (take l.place l.tags.tags))) l.on l.runs l.fn.told l.told

@@ -1,0 +1,6 @@
+pub mod Cells
+pub mod Keys
+pub mod Slots
+pub mod TagsGone
+pub mod TagsTold
+pub mod Told
