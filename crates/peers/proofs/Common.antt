@@ -14,7 +14,7 @@ pub use Rattle.command_effects.specs.Settings.{end_bound, first_settings, is_beh
 pub use Rattle.command_effects.specs.Settings.{setting_read, settings_checked, settings_read, start_bound, state_of}
 pub use Rattle.command_effects.specs.Words.{is_among, is_same, literal}
 pub use Rattle.command_effects.specs.declared.answers.Answer.{Answer}
-pub use Rattle.command_effects.specs.declared.answers.Answer.TheVariants.{Empty, Flag, Text, Word}
+pub use Rattle.command_effects.specs.declared.answers.Answer.TheVariants.{Empty, Text, Word}
 pub use Rattle.command_effects.specs.declared.answers.Fault.{Fault}
 pub use Rattle.command_effects.specs.declared.answers.Fault.TheVariants.{BadBoolean, BadInteger, BadOption, IndexOrder}
 pub use Rattle.command_effects.specs.declared.answers.Fault.TheVariants.{InvalidCommandName, Memory, NoSuchTag}
@@ -78,14 +78,14 @@ pub use Rattle.peers.specs.Marks.{gravity_asked, gravity_given, gravity_words, m
 pub use Rattle.peers.specs.Marks.{set_words}
 pub use Rattle.peers.specs.MarksTold.{MarksTellAt, MarksTellBy, MarksTellOf, TellsDropped}
 pub use Rattle.peers.specs.Options.{configure, settings_given}
-pub use Rattle.peers.specs.Queries.{count_between, counted_as, direction_by, direction_of, has_switch, is_direction}
-pub use Rattle.peers.specs.Queries.{searched, stands_for, stop_at, turned}
+pub use Rattle.peers.specs.Queries.{counted_as, direction_by, direction_of, has_switch, is_direction, stands_for}
+pub use Rattle.peers.specs.Queries.{turned}
 pub use Rattle.peers.specs.Ranges.{and_place, places_at}
+pub use Rattle.peers.specs.Requests.{called, request_step, widget_of, words_of}
 pub use Rattle.peers.specs.Step.{Makes, Outcome, are_frugal, changed, create, create_named, create_new, create_shaped}
 pub use Rattle.peers.specs.Step.{create_with, destroy, destroy_shaped, has_widgets, on_found, on_home, on_widget}
 pub use Rattle.peers.specs.Step.{refuses, seat_step, step}
-pub use Rattle.peers.specs.Tags.{add_words, next_between, place_or, previous_between, remove_words, tag_add, tag_lower}
-pub use Rattle.peers.specs.Tags.{tag_raise, tag_remove}
+pub use Rattle.peers.specs.Tags.{add_words, remove_words, tag_add, tag_lower, tag_raise, tag_remove}
 pub use Rattle.peers.specs.Texts.{got, insert, insert_pairs, insert_words, text_of, texts_of_places}
 pub use Rattle.peers.specs.Told.{AreTold, TellsAt, TellsOf, answer_of, edited, no_edit}
 pub use Rattle.peers.specs.WellFormed.{IsWellFormed}

@@ -2,11 +2,13 @@
 use Rattle.peers.proofs.Common.{◌≡◌, ◌≢◌, ℕ, suc, ◌<◌, true, false, cond, List, [], ◌∷◌, length, slice_set, option_map}
 use Rattle.peers.proofs.Common.{Option, Some, None, refl, sym, ap, subst, ◌∙◌, arith, IsDistinct, length-map}
 use Rattle.peers.proofs.Common.{LimitTable, is_among, is_same, Answer, Fault, Memory, Document, Widget, Change, Does}
-use Rattle.peers.proofs.Common.{refused, shape_fault, reading, PeerCreate, Shape, ShapeFault, arguments_of, call_of}
-use Rattle.peers.proofs.Common.{command, done, shaped, peer_create, IsWellFormedDocument, window_names, changed}
-use Rattle.peers.proofs.Common.{on_found, on_home, on_widget, refuses, seat_step, IsAt, IsWellFormed, World, widget_at}
-use Rattle.peers.proofs.Common.{all_windows, document_at, home, windows_of, Ok, Err, Result, IfErr, IsErrAnd}
-use Rattle.peers.proofs.Common.{MatchResult}
+use Rattle.peers.proofs.Common.{refused, shape_fault, reading, Shape, ShapeFault, arguments_of, switches_of, texts_of}
+use Rattle.peers.proofs.Common.{command, done, shaped, IsWellFormedDocument, window_names, changed, ap₂, Outcome}
+use Rattle.peers.proofs.Common.{request_step, widget_of, words_of, on_found, on_home, on_widget, refuses, seat_step}
+use Rattle.peers.proofs.Common.{IsAt, IsWellFormed, World, widget_at, all_windows, document_at, home, windows_of, Ok}
+use Rattle.peers.proofs.Common.{Err, Result, IfErr, IsErrAnd, MatchResult}
+use Rattle.peers.specs.declared.requests.Request.{Request}
+use Rattle.peers.proofs.DoneLaws.{calling}
 use Rattle.peers.proofs.MakesLaws.{changed-refuses}
 use Rattle.peers.proofs.WindowLaws.{same-windows}
 use Rattle.peers.proofs.WorldLaws.{all-at, all-changed, set-same, with_all}
@@ -51,15 +53,22 @@ at-step world name words {place} {seat} at =
     ap (on_home world name words) at.found
     ∙ ap (on_found world place (document_at world.documents place) words) at.named
 
--- words that are `peer create`
-pub peer-command : (limits : LimitTable) (windows : List (List ℕ)) (document : Document) (widget : Widget)
-    (words : List (List ℕ)) (shape : Shape)
-    → reading words ≡ Ok shape → shape.command ≡ PeerCreate
-    → command limits windows document widget words
-    ≡ peer_create limits windows document widget shape.arguments (arguments_of shape words)
-peer-command limits windows document widget words shape is peer =
-    ap (shaped limits windows document widget words) is
-    ∙ ap (λ which. done which document (call_of limits windows widget shape words)) peer
+-- a request that words of a shape make, of the widget of a name, does what the words do
+pub request-step : (world : World) (name : List ℕ) (words : List (List ℕ)) (shape : Shape) (request : Request) {place : ℕ}
+    → IsAt name world.documents place request.caller.seat → reading words ≡ Ok shape
+    → request.caller.limits.now ≡ world.limits → texts_of request.switches.now ≡ switches_of shape words →
+    request.position ≡ shape.arguments → words_of request ≡ arguments_of shape words
+    → request_step world place shape.command request ≡ on_widget world name words
+request-step world name words shape request {place} at read limits switches position arguments =
+    let document = document_at world.documents place in let windows = all_windows world in
+    let widget = widget_of document request in
+    let made : LimitTable → List (List ℕ) → ℕ → List (List ℕ) → Outcome = λ limits switches position arguments.
+    changed world place (done shape.command document (calling limits windows widget switches position arguments)) in
+    ap (λ limits. made limits (texts_of request.switches.now) request.position (words_of request)) limits
+    ∙ ap (λ switches. made world.limits switches request.position (words_of request)) switches
+    ∙ ap₂ (made world.limits (switches_of shape words)) position arguments
+    ∙ ap (λ found. changed world place (shaped world.limits windows document widget words found)) (sym read)
+    ∙ sym (at-step world name words at)
 
 -- words that are no command
 pub bad-command : (limits : LimitTable) (windows : List (List ℕ)) (document : Document) (widget : Widget)

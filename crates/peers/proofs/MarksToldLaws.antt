@@ -9,11 +9,10 @@ use Rattle.peers.proofs.Common.{peer_settings, peer_with, peer_create, with_sett
 use Rattle.peers.proofs.Common.{MarkKey, AreCarried, AreOthers, AreWatched, HasMarksBut, carried_all, mark_at}
 use Rattle.peers.proofs.Common.{mark_carried, mark_key, mark_keys, own_keys, watched, TakesMarksBut, Change, mark_unset}
 use Rattle.peers.proofs.Common.{answered, change_with, refused, done, mark_set, mark_gravity, set_at, mark_offset}
-use Rattle.peers.proofs.Common.{place_named, place_at, gravity_asked, gravity_given, World, all_windows, document_at}
-use Rattle.peers.proofs.Common.{widget_at, seat_step, reading, Shape, shaped, call_of, command, Makes, IsWellFormed}
-use Rattle.peers.proofs.Common.{IsWellFormedDocument, TellsAt, Told, carried-with, listed-all, marks-made, marks-peered}
-use Rattle.peers.proofs.Common.{marks-put, marks-stand, none-watched, one-watched, own-watched, IsPlaced, TellsCells}
-use Rattle.peers.proofs.Common.{is_same, literal, current_key, insert_key, still-taken, MarkChange}
+use Rattle.peers.proofs.Common.{place_named, place_at, gravity_asked, gravity_given, World, document_at, command, Makes}
+use Rattle.peers.proofs.Common.{IsWellFormed, IsWellFormedDocument, TellsAt, Told, carried-with, listed-all, marks-made}
+use Rattle.peers.proofs.Common.{marks-peered, marks-put, marks-stand, none-watched, one-watched, own-watched, IsPlaced}
+use Rattle.peers.proofs.Common.{TellsCells, is_same, literal, current_key, insert_key, still-taken, MarkChange, changed}
 use Rattle.edit_ops.specs.declared.changes.TextChange.{TextChange}
 use Rattle.documents.proofs.AbsentMarksLaws.{absent-carried}
 use Rattle.reports.proofs.WordLaws.{same-word}
@@ -279,22 +278,16 @@ pub record AreCarriedBut (changes : List TextChange) (old new : Document) (marks
   pub carried : AreCarried changes old new
   pub others : (key : MarkKey) → AreOthers key marks → mark_at new key ≡ mark_carried changes old key
 
-pub carried-but : (old new : World) (place seat : ℕ) (shape : Shape) (words : List (List ℕ)) (told : Told)
-    (marks : List MarkChange) → IsWellFormed old → place < length old.documents → reading words ≡ Ok shape →
-    Makes old new (Ok told.answer) (seat_step old place seat words)
-    → TellsAt old new (Some place) (seat_step old place seat words).edits told.edit
-    → let document = document_at old.documents place in
-    TakesMarksBut marks document (done shape.command document
-    (call_of old.limits (all_windows old) (widget_at document seat) shape words))
+pub carried-but : (old new : World) (place : ℕ) (change : Change) (told : Told) (marks : List MarkChange) →
+    IsWellFormed old → place < length old.documents → Makes old new (Ok told.answer) (changed old place change)
+    → TellsAt old new (Some place) change.edits told.edit
+    → let document = document_at old.documents place in TakesMarksBut marks document change
     → AreCarriedBut told.edit.changes document (document_at new.documents place) marks
-carried-but old new place seat shape words told marks formed within read makes tells covers =
-    let document = document_at old.documents place in let widget = widget_at document seat in
-    let change = command old.limits (all_windows old) document widget words in
+carried-but old new place change told marks formed within makes tells covers =
+    let document = document_at old.documents place in
     let is : document_at new.documents place ≡ change.document =
     ap (λ (w : World). document_at w.documents place) (makes.world (value≢memory (Ok told.answer) told.answer refl))
     ∙ set-at old.documents place change.document within in
-    let made : change ≡ done shape.command document (call_of old.limits (all_windows old) widget shape words) =
-    ap (shaped old.limits (all_windows old) document widget words) read in
     let there = all-at (IsWellFormedDocument old.limits) old.documents place formed.documents within in
     let fits = there.fits in
     let most = formed.limits.chars in
@@ -315,7 +308,7 @@ carried-but old new place seat shape words told marks formed within read makes t
         short = (omega (arith, fits, most), (let after = later.fits in omega (arith, after, most)));
         stand = marks-stand old.limits document there;
       };
-      others = λ key others. ap (λ (d : Document). mark_at d key) (is ∙ ap (λ (c : Change). c.document) made)
-          ∙ covers told.edit (subst (λ (c : Change). TellsCells c.edits document.cells c.document.cells told.edit) made
-          (subst (λ (d : Document). TellsCells change.edits document.cells d.cells told.edit) is tells)) key others;
+      others = λ key others. ap (λ (d : Document). mark_at d key) is
+          ∙ covers told.edit
+          (subst (λ (d : Document). TellsCells change.edits document.cells d.cells told.edit) is tells) key others;
     }

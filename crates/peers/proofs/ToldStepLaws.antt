@@ -6,6 +6,7 @@ use Rattle.peers.proofs.Common.{on_widget, is_frugal_reading, are_frugal, is_sam
 use Rattle.peers.proofs.Common.{is_window_name, IsWellFormedDocument, PeerCreate, Makes, changed, peer_create, TellsAt}
 use Rattle.peers.proofs.Common.{TellsOf, MarksTellAt, MarksTellOf, no_edit, IsWellFormed, World, all_windows}
 use Rattle.peers.proofs.Common.{document_at, home, names_read, IfOk-weaker, Told, TellsCells, MarksTellBy, TellsDropped}
+use Rattle.peers.proofs.Common.{IsAt, Outcome}
 use Rattle.std.specs.Str.{chars}
 use Rattle.peers.specs.Told.{answered}
 use Rattle.peers.proofs.FrontLaws.{set-at}
@@ -38,6 +39,15 @@ peer-tells old new place position arguments widget (Ok answer) within makes =
     (still-text old.limits (all_windows old) document widget PeerCreate [] position arguments (λ edit. edit))
     (cells-done old.limits (all_windows old) document widget PeerCreate []
     position arguments (λ edit. edit) (λ edit. edit)))
+
+-- what is told of a step at the place of the widget of a name is told of the widget
+pub tells-at : (old new : World) (name : List ℕ) (words : List (List ℕ)) {place seat : ℕ} {outcome : Outcome}
+    (made : Result Told Fault) → IsAt name old.documents place seat → outcome ≡ on_widget old name words
+    → IfOk made (λ told. TellsAt old new (Some place) outcome.edits told.edit)
+    → IfOk made (λ told. TellsAt old new (home name old.documents) (on_widget old name words).edits told.edit)
+tells-at old new name words {place} made at is tells =
+    subst (λ there. IfOk made (λ told. TellsAt old new there (on_widget old name words).edits told.edit)) (sym at.found)
+    (subst (λ (outcome : Outcome). IfOk made (λ told. TellsAt old new (Some place) outcome.edits told.edit)) is tells)
 
 -- ---- any command
 

@@ -9,6 +9,7 @@ pub mod MarksTold
 pub mod Options
 pub mod Queries
 pub mod Ranges
+pub mod Requests
 pub mod Step
 pub mod Tags
 pub mod Texts

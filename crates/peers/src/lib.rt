@@ -11,6 +11,7 @@ mod marks;
 mod options;
 mod queries;
 mod ranges;
+mod requests;
 mod tags;
 mod texts;
 mod told;

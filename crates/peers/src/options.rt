@@ -1,17 +1,16 @@
 //! The commands `configure` and `cget`.
 
-ghost use Rattle.std.specs.Prelude.{◌≡◌, ◌+◌, ◌≤◌, length, chars, Ok, ◌<◌, false, IfOk};
+ghost use Rattle.std.specs.Prelude.{◌≡◌, ◌+◌, ◌≤◌, ◌<◌, length, false, IfOk};
 ghost use Rattle.text_model.specs.LimitTable.{LimitTable};
 ghost use Rattle.tcl_words.specs.Unread.{texts_of};
-ghost use Rattle.command_effects.specs.Settings.{setting_answer};
-ghost use Rattle.documents.specs.Options.{settings_of};
 ghost use Rattle.peers.specs.Options.{cget, configure};
+ghost use Rattle.peers.specs.Requests.{widget_of, words_of};
 ghost use Rattle.documents.specs.Promise.{Does, Gives};
-ghost use Rattle.documents.specs.Documents.{widget_at};
 ghost use Rattle.command_effects.specs.Settings.{is_behind, settings_checked, settings_read};
 ghost use Rattle.command_effects.specs.Faults.{with_value};
 ghost use Rattle.documents.specs.Options.{AreLines};
 
+use crate::requests::Request;
 use command_effects::{Answer, Fault, Settings, one};
 use documents::Document;
 use text_model::TextStore;
@@ -34,44 +33,32 @@ pub fn settings_given(
     settings.checked()
 }
 
-/// `W configure option value ?option value ..?` (text(n), "configure"). The first option stands at a position.
+/// `W configure option value ?option value ..?` (text(n), "configure").
 pub fn configure<S: TextStore>(
     document: &mut Document<S>,
-    seat: usize,
-    position: usize,
-    words: &[String],
+    request: &Request<'_>,
 ) -> Result<Answer, Fault>
-    requires shown { seat < length document.old.widgets }
-    requires near { position + length words.now ≤ usize.MAX }
+    requires shown { request.now.caller.seat < length document.old.widgets }
     ensures { (limits : LimitTable) → Does limits document.old document.new result
-        (configure document.old (widget_at document.old seat) position (texts_of words.now)) }
+        (configure document.old (widget_of document.old request.now) request.now.position (words_of request.now)) }
 {
-    let settings = settings_given(document.settings(seat), position, words, document.lines())?;
+    let seat = request.caller.seat;
+    let lines = document.lines();
+    let settings = settings_given(
+        document.settings(seat),
+        request.position,
+        request.arguments,
+        lines,
+    )?;
     Ok(document.put_settings(seat, settings))
 }
 
-/// The value of an option. The name is one of the options.
-fn setting<S: TextStore>(document: &Document<S>, seat: usize, option: &str) -> Result<Answer, Fault>
-    requires shown { seat < length document.now.widgets }
-    ensures { Gives result (Ok (setting_answer (chars option.now)
-        (settings_of document.now (widget_at document.now seat)))) }
-{
-    Ok(
-        document
-            .settings(seat)
-            .answer(document.allocator(), option)?,
-    )
-}
-
 /// `W cget option` (text(n), "cget").
-pub fn cget<S: TextStore>(
-    document: &Document<S>,
-    seat: usize,
-    words: &[String],
-) -> Result<Answer, Fault>
-    requires shown { seat < length document.now.widgets }
-    ensures { Gives result (cget document.now (widget_at document.now seat) (texts_of words.now)) }
+pub fn cget<S: TextStore>(document: &Document<S>, request: &Request<'_>) -> Result<Answer, Fault>
+    requires shown { request.now.caller.seat < length document.now.widgets }
+    ensures { Gives result (cget document.now (widget_of document.now request.now) (words_of request.now)) }
 {
-    let option = one(words)?;
-    setting(document, seat, option)
+    let option = one(request.arguments)?;
+    let settings = document.settings(request.caller.seat);
+    Ok(settings.answer(document.allocator(), option)?)
 }

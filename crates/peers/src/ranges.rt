@@ -31,7 +31,7 @@ pub fn places_at<S: TextStore>(
     let mut places = Vec::with_capacity(document.allocator(), words.len())?;
     for (index, word) in words.iter().enumerate() {
         let place = document.place_at(seat, position + index, word.as_str())?;
-        places.push(place)?
+        places.push(place)?;
     }
     Ok(places)
 }

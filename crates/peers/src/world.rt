@@ -8,11 +8,11 @@ ghost use Rattle.command_table.specs.Reading.{reading};
 ghost use Rattle.command_effects.specs.Settings.{is_behind};
 ghost use Rattle.command_effects.specs.Words.{is_among};
 ghost use Rattle.reports.specs.Cells.{characters};
-ghost use Rattle.documents.specs.Documents.{widget_at};
 ghost use Rattle.documents.specs.Kept.{is_window_name};
 ghost use Rattle.peers.specs.History.{can_redo_by, can_undo_by};
 ghost use Rattle.peers.specs.Step.{Makes, changed, create_named, create, create_shaped, destroy, destroy_shaped};
-ghost use Rattle.peers.specs.Step.{on_widget, seat_step, step, are_frugal};
+ghost use Rattle.peers.specs.Step.{on_widget, step, are_frugal};
+ghost use Rattle.peers.specs.Requests.{request_step, widget_of, words_of};
 ghost use Rattle.peers.specs.Commands.{is_frugal, is_frugal_reading};
 ghost use Rattle.peers.specs.Concerned.{homes_asked, text_of_words};
 ghost use Rattle.peers.specs.Widgets.{peer_create, peer_with};
@@ -23,16 +23,17 @@ ghost use Rattle.peers.specs.MarksTold.{MarksTellAt, MarksTellOf, TellsDropped};
 ghost use Rattle.peers.specs.Told.{answer_of, no_edit, TellsAt, TellsOf};
 ghost use Rattle.documents.specs.Options.{AreLines};
 
-use crate::commands::command;
+use crate::commands::carry_out;
 use crate::document_list::Documents;
 use crate::marks::marks_before;
 use crate::options::settings_given;
+use crate::requests::Request;
 use crate::told::{Follows, Told, answered};
 use crate::widgets::peer_settings;
 use crate::windows::Windows;
 use crate::words::is_window_name;
 use command_effects::{Answer, Fault, Settings, first, is_word};
-use command_table::{Command, Shape, shape};
+use command_table::{Command, shape};
 use documents::{Caller, Document, EditTold, MarkList};
 use std::alloc::{AllocError, Global};
 use std::marker::Model;
@@ -207,96 +208,70 @@ impl<S: TextStore> World<S> {
         Ok(Answer::Word(position))
     }
 
-    /// `W peer create V ?option value ..?` (text(n), "PEER WIDGETS"), of a widget of the document at a place. The
-    /// arguments stand from a position on.
-    fn create_peer(
-        &mut self,
-        place: usize,
-        seat: usize,
-        position: usize,
-        arguments: &[String],
-    ) -> Result<Answer, Fault>
+    /// `W peer create V ?option value ..?` (text(n), "PEER WIDGETS"), of a widget of the document at a place.
+    fn create_peer(&mut self, place: usize, request: &Request<'_>) -> Result<Answer, Fault>
         requires place { place < length self.old.documents }
-        requires shown { seat < length (document_at self.old.documents place).widgets }
-        requires near { position + length arguments.now ≤ usize.MAX }
+        requires shown { request.now.caller.seat < length (document_at self.old.documents place).widgets }
         ensures { let document = document_at self.old.documents place in
             Makes self.old self.new result (changed self.old place
-            (peer_create self.old.limits (all_windows self.old) document (widget_at document seat) position
-            (texts_of arguments.now))) }
+            (peer_create self.old.limits (all_windows self.old) document (widget_of document request.now)
+            request.now.position (words_of request.now))) }
     {
-        // Read first, so that every return knows that the world is well formed.
         let document = &self.documents.list[place];
-        let (name, words) = first(arguments)?;
+        let (name, words) = first(request.arguments)?;
         if !is_window_name(name) {
-            return Err(Fault::InvalidCommandName(position));
+            return Err(Fault::InvalidCommandName(request.position));
         }
-        let settings = peer_settings(document, seat, position + 1, words)?;
-        self.add_peer(place, position, name, settings)
+        let settings = peer_settings(document, request.caller.seat, request.position + 1, words)?;
+        self.add_peer(place, request.position, name, settings)
     }
 
-    /// A command of the widget at a seat of the document at a place, of all its words, which have this shape. Where the
-    /// caller follows the text, it reports what it changed of that.
+    /// A command of a widget of the document at a place. Where the caller follows the text, it reports what it changed
+    /// of that.
     fn on_seat(
         &mut self,
         place: usize,
-        seat: usize,
-        shape: Shape,
-        words: &[String],
-        follows: bool,
+        command: Command,
+        request: &Request<'_>,
     ) -> Result<Told, Fault>
         requires place { place < length self.old.documents }
-        requires shown { seat < length (document_at self.old.documents place).widgets }
-        requires shape { reading (texts_of words.now) ≡ Ok shape }
-        requires within { shape.arguments + shape.count ≤ length words.now }
-        requires ordered { shape.switches ≤ shape.arguments }
-        ensures makes { Makes self.old self.new (answer_of result)
-            (seat_step self.old place seat (texts_of words.now)) }
-        ensures tells { follows ≡ true → IfOk result (λ told. TellsAt self.old self.new (Some place)
-            (seat_step self.old place seat (texts_of words.now)).edits told.edit) }
+        requires shown { request.now.caller.seat < length (document_at self.old.documents place).widgets }
+        requires limits { request.now.caller.limits.now ≡ self.old.limits }
+        ensures makes { Makes self.old self.new (answer_of result) (request_step self.old place command request.now) }
+        ensures tells { request.now.caller.follows ≡ true → IfOk result (λ told.
+            TellsAt self.old self.new (Some place) (request_step self.old place command request.now).edits told.edit) }
         ensures unmarked { IfOk result (λ told. told.marks ≡ []) }
-        ensures frugal { is_frugal shape.command ≡ true → result ≢ Err Fault.Memory }
+        ensures frugal { is_frugal command ≡ true → result ≢ Err Fault.Memory }
     {
-        match shape.command {
+        match command {
             Command::PeerCreate => {
-                let arguments = &words[shape.arguments..];
-                let made = self.create_peer(place, seat, shape.arguments, arguments);
+                let made = self.create_peer(place, request);
                 answered(self.documents.alloc, made)
             }
-            _ => {
-                let caller = Caller {
-                    limits: &self.limits,
-                    seat,
-                    follows,
-                };
-                command(&mut self.documents.list[place], caller, shape, words)
-            }
+            _ => carry_out(&mut self.documents.list[place], command, request),
         }
     }
 
-    /// The same command. It reports what it changed, with the marks that it displaced.
+    /// The same command, of a caller who follows the text. It also reports the marks that it displaced.
     fn on_seat_with_marks(
         &mut self,
         place: usize,
-        seat: usize,
-        shape: Shape,
-        words: &[String],
+        command: Command,
+        request: &Request<'_>,
     ) -> Result<Told, Fault>
         requires place { place < length self.old.documents }
-        requires shown { seat < length (document_at self.old.documents place).widgets }
-        requires shape { reading (texts_of words.now) ≡ Ok shape }
-        requires within { shape.arguments + shape.count ≤ length words.now }
-        requires ordered { shape.switches ≤ shape.arguments }
-        ensures makes { Makes self.old self.new (answer_of result)
-            (seat_step self.old place seat (texts_of words.now)) }
-        ensures tells { IfOk result (λ told. TellsAt self.old self.new (Some place)
-            (seat_step self.old place seat (texts_of words.now)).edits told.edit) }
+        requires shown { request.now.caller.seat < length (document_at self.old.documents place).widgets }
+        requires limits { request.now.caller.limits.now ≡ self.old.limits }
+        requires follows { request.now.caller.follows ≡ true }
+        ensures makes { Makes self.old self.new (answer_of result) (request_step self.old place command request.now) }
+        ensures tells { IfOk result (λ told.
+            TellsAt self.old self.new (Some place) (request_step self.old place command request.now).edits told.edit) }
         ensures marks { IfOk result (λ told.
             MarksTellAt self.old self.new (Some place) told.edit.changes told.marks) }
-        ensures frugal { is_frugal shape.command ≡ true → result ≢ Err Fault.Memory }
+        ensures frugal { is_frugal command ≡ true → result ≢ Err Fault.Memory }
     {
-        let arguments = &words[shape.arguments..];
-        let mut marks = marks_before(&self.documents.list[place], seat, shape.command, arguments)?;
-        let told = self.on_seat(place, seat, shape, words, true)?;
+        let mut marks = marks_before(&self.documents.list[place], command, request)?;
+        let told = self.on_seat(place, command, request)?;
         self.documents.list[place].settle_marks(&mut marks, &told.edit.changes);
         Ok(Told {
             answer: told.answer,
@@ -322,10 +297,17 @@ impl<S: TextStore> World<S> {
             return Err(Fault::InvalidCommandName(0));
         };
         let shape = shape(words).map_err(Fault::of_shape)?;
+        let limits = self.limits;
+        let caller = Caller {
+            limits: &limits,
+            seat,
+            follows: follows.text || follows.marks,
+        };
+        let request = Request::of(caller, shape, words);
         if follows.marks {
-            self.on_seat_with_marks(place, seat, shape, words)
+            self.on_seat_with_marks(place, shape.command, &request)
         } else {
-            self.on_seat(place, seat, shape, words, follows.text)
+            self.on_seat(place, shape.command, &request)
         }
     }
 

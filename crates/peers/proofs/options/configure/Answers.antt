@@ -1,17 +1,17 @@
-use Rattle.peers.proofs.Common.{◌≡◌, sym, ap₂, ◌∙◌, texts_of, with_value, settings_checked, settings_read, Empty}
-use Rattle.peers.proofs.Common.{widget_at, settings_of, with_settings, answered, settings_given, subst, Change, Does}
-use Rattle.peers.proofs.Common.{Settings, change_with}
+use Rattle.peers.proofs.Common.{◌≡◌, sym, ap₂, ◌∙◌, with_value, settings_checked, settings_read, Empty, settings_of}
+use Rattle.peers.proofs.Common.{with_settings, answered, settings_given, subst, Change, Does, Settings, change_with}
+use Rattle.peers.proofs.Common.{widget_of, words_of}
 use Rattle.peers.proofs.PromiseLaws.{does-found, does-refused, faulted}
 use Rattle.peers.proofs.options.configure.Goals as goal
 
 pub returns-in_err-settings : goal.returns-in_err-settings
 returns-in_err-settings g c = λ limits.
-    let document = c.args.document.now in let widget = widget_at document c.args.seat in
-    let defined = settings_given document c.args.position (texts_of c.args.words.now) (settings_of document widget) in
+    let document = c.args.document.now in let request = c.args.request.now in let widget = widget_of document request in
+    let defined = settings_given document request.position (words_of request) (settings_of document widget) in
     let same : c.settings_given.result ≡ defined =
     c.settings_given.ensures.value ∙ ap₂ (λ lines settings.
-    with_value (settings_read lines c.args.position (texts_of c.args.words.now) settings) settings_checked)
-    c.lines.ensures c.settings.ensures.value in
+    with_value (settings_read lines request.position (words_of request) settings) settings_checked)
+    c.lines-lines.ensures c.settings.ensures.value in
     let fault = c.in_err-settings.field-0.0 in
     let next : Settings → Change = λ settings. answered (with_settings widget settings document) Empty in
     subst (λ result. Does limits document document result (change_with document defined next))
@@ -20,11 +20,11 @@ returns-in_err-settings g c = λ limits.
 
 pub returns : goal.returns
 returns g c = λ limits.
-    let document = c.args.document.now in let widget = widget_at document c.args.seat in
-    let defined = settings_given document c.args.position (texts_of c.args.words.now) (settings_of document widget) in
+    let document = c.args.document.now in let request = c.args.request.now in let widget = widget_of document request in
+    let defined = settings_given document request.position (words_of request) (settings_of document widget) in
     let same : c.settings_given.result ≡ defined =
     c.settings_given.ensures.value ∙ ap₂ (λ lines settings.
-    with_value (settings_read lines c.args.position (texts_of c.args.words.now) settings) settings_checked)
-    c.lines.ensures c.settings.ensures.value in
+    with_value (settings_read lines request.position (words_of request) settings) settings_checked)
+    c.lines-lines.ensures c.settings.ensures.value in
     does-found defined c.in_ok-settings.settings (λ settings.
     answered (with_settings widget settings document) Empty) (sym same ∙ c.in_ok-settings.was) (c.put_settings.ensures limits)
