@@ -73,11 +73,8 @@ pub fn run<S: TextStore, R: ByteSource, W: ByteSink>(
         refused: 0,
         script_fault: false,
     };
-    let ended = run_reads(&mut world, &mut buffers, &mut summary, source, sink, limits);
-    match ended {
-        Ok(()) => Ok(summary),
-        Err(fault) => Err(fault),
-    }
+    run_reads(&mut world, &mut buffers, &mut summary, source, sink, limits)?;
+    Ok(summary)
 }
 
 /// Reads, and carries out what is read, until the script ends, each command by the same words. It is the run, whose
