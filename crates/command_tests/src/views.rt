@@ -4,7 +4,7 @@ ghost use Rattle.std.specs.Prelude.{◌≡◌};
 
 use crate::scenes::{Scene, store_with, two_lines};
 use index_grammar::Direction;
-use search_dump::{Counted, Listed, SearchSwitches, Wanted, count, dump, search};
+use search_dump::{Counted, Listed, SearchSwitches, Sight, Wanted, count, dump, search};
 use std::alloc::Global;
 use std::process::Abort;
 use std::test::Fail;
@@ -50,9 +50,12 @@ fn names_of(scene: &Scene) -> Names<'_>
     }
 }
 
+fn whole_view<'a>(rt: &impl Abort, store: &'a PlainStore) -> View<'a, PlainStore> {
+    View::try_new(store, 0, store.len()).expect(rt, "a text is whole lines")
+}
+
 fn check_index(rt: &impl Abort, alloc: Global, scene: &Scene, row: &Indexed) -> Result<(), Fail> {
-    let view = View::new(&scene.store, 0, scene.store.len());
-    assert!(rt; view.shows_lines());
+    let view = whole_view(rt, &scene.store);
     let index = parse(alloc, row.word, &names_of(scene))?;
     let place = resolve(&index, &view)?;
     let mut text = String::new(alloc);
@@ -74,8 +77,8 @@ fn check_indices(
 }
 
 fn check_search(rt: &impl Abort, alloc: Global, scene: &Scene) -> Result<(), Fail> {
-    let view = View::new(&scene.store, 0, scene.store.len());
-    assert!(rt; view.shows_lines());
+    let view = whole_view(rt, &scene.store);
+    assert!(rt; view.start <= view.end);
     let switches = SearchSwitches {
         direction: Direction::Forward,
         wanted: Wanted::Apart,
@@ -88,8 +91,8 @@ fn check_search(rt: &impl Abort, alloc: Global, scene: &Scene) -> Result<(), Fai
 }
 
 fn check_counts(rt: &impl Abort, alloc: Global, scene: &Scene) -> Result<(), Fail> {
-    let view = View::new(&scene.store, 0, scene.store.len());
-    assert!(rt; view.shows_lines() && 9 <= view.len());
+    let view = whole_view(rt, &scene.store);
+    assert!(rt; view.start == 0 && 9 <= view.end);
     let options = [Counted::Characters, Counted::Lines];
     let counts = count(alloc, &view, &options, 1, 9)?;
     assert!(rt; counts.as_str() == "8 1", "{counts}");
@@ -97,14 +100,19 @@ fn check_counts(rt: &impl Abort, alloc: Global, scene: &Scene) -> Result<(), Fai
 }
 
 fn check_dump(rt: &impl Abort, alloc: Global, scene: &Scene) -> Result<(), Fail> {
-    let view = View::new(&scene.store, 0, scene.store.len());
-    assert!(rt; view.shows_lines() && 9 <= view.len());
+    let view = whole_view(rt, &scene.store);
+    assert!(rt; view.start == 0 && 9 <= view.end);
+    let names = names_of(scene);
+    let sight = Sight {
+        view: &view,
+        names: &names,
+    };
     let listed = Listed {
         tags: true,
         marks: true,
         text: true,
     };
-    let list = dump(alloc, &view, &names_of(scene), listed, 4, 9)?;
+    let list = dump(alloc, &sight, listed, 4, 9)?;
     assert!(rt; list.as_str() == "text {two\n} 1.4 text t 2.0", "{list}");
     Ok(())
 }
@@ -124,8 +132,8 @@ fn a_view_answers(rt: HostRuntime) -> Result<(), Fail> {
 
 // Where a tag of all characters but the newline changes.
 fn check_change(rt: &impl Abort, store: &PlainStore, slot: TagSlot) {
-    let view = View::new(store, 0, store.len());
-    assert!(rt; view.shows_lines() && view.s == 0 && view.e == 4 && slot.0 < TagSet::SLOTS);
+    let view = whole_view(rt, store);
+    assert!(rt; view.start == 0 && view.end == 4 && slot.0 < TagSet::SLOTS);
     assert!(rt; change_after(&view, slot, 0) == 3);
 }
 

@@ -55,7 +55,7 @@ pub use Rattle.documents.specs.Seats.{IsLonger}
 pub use Rattle.documents.specs.Tags.{add_spans, known_or, remove_spans, reordered, tag_delete, tags_on}
 pub use Rattle.documents.specs.Texts.{insert_at, insertion_offset, joined_text, keyed_text, tags_with, within_limits}
 pub use Rattle.documents.specs.Told.{Foretells, reply_of}
-pub use Rattle.documents.specs.Views.{is_idle, shown, shown_flags, view_end, view_start}
+pub use Rattle.documents.specs.Views.{is_idle, part_between, shown, shown_flags, view_end, view_start}
 pub use Rattle.documents.specs.WellFormed.{HasItsKeys, IsPlaced, IsWellFormedDocument, belongs, window_names}
 pub use Rattle.documents.specs.Widgets.{IsOpen, ShowsOpenly, is_kept, new_widget, widget_named, with_peer}
 pub use Rattle.documents.specs.Widgets.{without_selections, without_widgets}
@@ -118,16 +118,16 @@ pub use Rattle.reports.specs.TagsTold.{AreGapped, TellsSpans, TellsTags, flags_o
 pub use Rattle.reports.specs.Told.{TellsCells}
 pub use Rattle.reports.specs.declared.keys.Key.{Key}
 pub use Rattle.reports.specs.declared.told.EditTold.{EditTold}
-pub use Rattle.search_dump.specs.Dump.{dump_elements, name_of_rank, seen_by}
+pub use Rattle.search_dump.specs.Dump.{Outlook, dump_elements, name_of_rank, seen_by, usable_by}
 pub use Rattle.std.proofs.Math.ListN.{replicate}
 pub use Rattle.std.proofs.lemmas.Bool.{false≢true, and_parts, cases_lt, false_from_ne_true, le-leb, le-ltb, lt-ltb}
 pub use Rattle.std.proofs.lemmas.Bool.{ltb-false, ltb-true, or_left, or_right}
 pub use Rattle.std.proofs.lemmas.Bool.Decides.{nat_tests}
 pub use Rattle.std.proofs.lemmas.Grind.{get_or-set_at}
-pub use Rattle.std.proofs.lemmas.List.{drop-drop, drop-take, drop_all, get_or-drop, get_or-map, get_or-set_other}
-pub use Rattle.std.proofs.lemmas.List.{get_or-take, get_or_append_left, get_or_default, get_or_past, length-map}
-pub use Rattle.std.proofs.lemmas.List.{length-set, length-take-le, map-append, map-id, nil_from_length, replicate_more}
-pub use Rattle.std.proofs.lemmas.List.{take-append-le, take-take, take_all}
+pub use Rattle.std.proofs.lemmas.List.{drop_all, get_or-drop, get_or-map, get_or-set_other, get_or-take}
+pub use Rattle.std.proofs.lemmas.List.{get_or_append_left, get_or_default, get_or_past, length-map, length-set}
+pub use Rattle.std.proofs.lemmas.List.{length-take-le, map-append, map-id, nil_from_length, replicate_more}
+pub use Rattle.std.proofs.lemmas.List.{take-append-le, take_all}
 pub use Rattle.std.proofs.lemmas.List.Concat.{flat_map-append}
 pub use Rattle.std.proofs.lemmas.List.Elements.{All-append, All-cons, All-drop, All-head, All-map, All-nil, All-push}
 pub use Rattle.std.proofs.lemmas.List.Elements.{All-replicate, All-set, All-tail, All-take, All-weaker}
@@ -155,9 +155,10 @@ pub use Rattle.tcl_words.specs.Unread.{texts_of}
 pub use Rattle.text_cursor.specs.Around.{shared_slots}
 pub use Rattle.text_index.proofs.RangeLaws.{range-unset, ranges_from-first}
 pub use Rattle.text_index.specs.Meanings.{AreWithin, MeanTheSame, shown_meanings, word_value}
+pub use Rattle.text_index.specs.Parts.{part_of}
 pub use Rattle.text_index.specs.Positions.{position_text}
 pub use Rattle.text_index.specs.Ranges.{and_later, next_range, previous_range, ranges_from, tag_ranges}
-pub use Rattle.text_index.specs.Views.{IsView, own_place, shared_place, shown_mark}
+pub use Rattle.text_index.specs.Views.{IsView, Part, own_place, shared_place, shown_mark}
 pub use Rattle.text_index.specs.Words.{is_word}
 pub use Rattle.text_model.proofs.CellLaws.{characters-inserted, characters-removed, characters-with_slot}
 pub use Rattle.text_model.proofs.CellLaws.{characters-without_slots}

@@ -1,6 +1,6 @@
 -- What names mean to a widget, and the places of its words.
-use Rattle.documents.proofs.Common.{◌≡◌, ◌≢◌, ℕ, suc, [], ◌+◌, ◌-◌, ◌*◌, ◌<◌, ◌≤◌, true, false, List, refl, sym, ap}
-use Rattle.documents.proofs.Common.{◌∙◌, arith, inl, inr, slice_get, is_some, option_and_then, unwrap_or, codes}
+use Rattle.documents.proofs.Common.{Part, ◌≡◌, ◌≢◌, ℕ, suc, [], ◌+◌, ◌-◌, ◌*◌, ◌<◌, ◌≤◌, true, false, List, refl, sym}
+use Rattle.documents.proofs.Common.{ap, ◌∙◌, arith, inl, inr, slice_get, is_some, option_and_then, unwrap_or, codes}
 use Rattle.documents.proofs.Common.{bytes_eq, nat_lt, if◌then◌else◌, position_from, false≢true, nat_tests}
 use Rattle.documents.proofs.Common.{get_or_from_slice_get, MOST_WIDGETS, Place, Content, SharedMarks, first_number}
 use Rattle.documents.proofs.Common.{number_of, known_marks, known_tags, own_place, shared_place, shown_mark, is_word}
@@ -14,7 +14,7 @@ use Rattle.index_grammar.specs.declared.faults.IndexFault.{IndexFault}
 use Rattle.text_index.proofs.MeaningLaws.{word_value-same}
 use Rattle.documents.proofs.PartsLaws.{Sits}
 use Rattle.documents.proofs.PlacedLaws.{found_mark, marked-there}
-use Rattle.documents.proofs.ViewLaws.{IsSeen, end-is, end_in, flags-is, shown-is, start-is, start_in}
+use Rattle.documents.proofs.ViewLaws.{IsSeen, end-is, end_in, flags-is, part-found, shown-is, start-is, start_in}
 use Rattle.std.specs.FinMap as finite
 use Rattle.index_grammar.specs.declared.faults.IndexFault.TheVariants as index
 use Rattle.text_index.specs.Views as view
@@ -45,7 +45,7 @@ shared-shown start end number (Some place) other there =
 
 -- a shared mark is shown by its number as it is by its place among the shared ones
 shared-same : (content : Content) (table : SharedMarks) (start end : ℕ) (word : List ℕ) → AreMarked table content.marks
-    → option_map (shown_mark content start end) (number_of word table.marks)
+    → option_map (shown_mark (record { content = content; start = start; end = end })) (number_of word table.marks)
     ≡ option_map (λ k. option_and_then (λ (mark : SharedMark). shared_place start end mark.place)
     (slice_get (placed content.marks table.marks) k))
     (position_from (λ (mark : SharedMark). is_same word mark.name) 0 (placed content.marks table.marks))
@@ -54,12 +54,12 @@ shared-same content table start end word marked =
     option_and_then (λ (mark : SharedMark). shared_place start end mark.place)
     (slice_get (placed content.marks table.marks) k)) in
     elim (found_mark content.marks word table.marks 0 marked.each) [
-      | inl none ↦ ap (option_map (shown_mark content start end)) none.0 ∙ sym (ap P none.1)
+      | inl none ↦ ap (option_map (shown_mark (record { content = content; start = start; end = end }))) none.0 ∙ sym (ap P none.1)
       | inr there ↦
           let number = there.mark.number in
           let least : first_number ≤ number = (marked.marks.numbers there.place number there.numbered).0 in
           let other : nat_lt number first_number ≡ false = grind (arith, nat_tests) in
-          ap (option_map (shown_mark content start end)) there.number
+          ap (option_map (shown_mark (record { content = content; start = start; end = end }))) there.number
           ∙ ap Some (shared-shown start end number (finite.get content.marks number) other
           (marked-there content.marks there.mark there.marked)
           ∙ sym (ap (option_and_then (λ (mark : SharedMark). shared_place start end mark.place)) there.stands))
@@ -89,6 +89,9 @@ module _ (parts : Parts) (document : Document) (place slot : ℕ) (stands : Stan
   abbrev end : ℕ
   end = end_in parts slot
 
+  abbrev part : Part
+  part = record { content = parts.content; start = start; end = end }
+
   -- the two marks of its own
   pub insert-is : widget.insert ≡ mark_of parts.content.marks (2 * slot)
   insert-is = ap (λ (w : Widget). w.insert) sits.widget ∙ ap (λ n. mark_of parts.content.marks (2 * n)) sits.number
@@ -97,14 +100,14 @@ module _ (parts : Parts) (document : Document) (place slot : ℕ) (stands : Stan
   current-is =
       ap (λ (w : Widget). w.current) sits.widget ∙ ap (λ n. mark_of parts.content.marks (2 * n + 1)) sits.number
 
-  pub insert-shown : shown_mark parts.content start end (2 * slot)
+  pub insert-shown : shown_mark part (2 * slot)
       ≡ Some (own_place (view_start widget) (view_end document widget) widget.insert)
   insert-shown =
       own-shown start end (2 * slot) (finite.get parts.content.marks (2 * slot)) (own-first slot sits.below) sits.insert
       ∙ sym (λ i. Some (own_place (start-is parts document place slot stands sits i)
       (end-is parts document place slot stands sits i) (insert-is i)))
 
-  pub current-shown : shown_mark parts.content start end (2 * slot + 1)
+  pub current-shown : shown_mark part (2 * slot + 1)
       ≡ Some (own_place (view_start widget) (view_end document widget) widget.current)
   current-shown =
       own-shown start end (2 * slot + 1) (finite.get parts.content.marks (2 * slot + 1)) (own-second slot sits.below)
@@ -112,7 +115,7 @@ module _ (parts : Parts) (document : Document) (place slot : ℕ) (stands : Stan
       ∙ sym (λ i. Some (own_place (start-is parts document place slot stands sits i)
       (end-is parts document place slot stands sits i) (current-is i)))
 
-  shared-shown-is : (word : List ℕ) → option_map (shown_mark parts.content start end) (number_of word parts.marks.marks)
+  shared-shown-is : (word : List ℕ) → option_map (shown_mark part) (number_of word parts.marks.marks)
       ≡ option_map (mark_place document widget)
       (option_map (λ k. suc (suc k)) (position_from (λ (mark : SharedMark). is_same word mark.name) 0
       document.marks))
@@ -125,10 +128,10 @@ module _ (parts : Parts) (document : Document) (place slot : ℕ) (stands : Stan
       ∙ twice (position_from (λ (mark : SharedMark). is_same word mark.name) 0 document.marks)
       (mark_place document widget)
 
-  pub marks-mean : (word : List ℕ) → option_map (shown_mark parts.content start end)
+  pub marks-mean : (word : List ℕ) → option_map (shown_mark part)
       (known_marks parts.marks.marks slot word) ≡ option_map (mark_place document widget) (mark_number document word)
   marks-mean word =
-      let shown_so : Option ℕ → Option (Option ℕ) = option_map (shown_mark parts.content start end) in
+      let shown_so : Option ℕ → Option (Option ℕ) = option_map (shown_mark part) in
       let shared : Option ℕ = option_map (λ k. suc (suc k))
       (position_from (λ (mark : SharedMark). is_same word mark.name) 0 document.marks) in
       ap (λ w. shown_so (if bytes_eq word w then Some (2 * slot)
@@ -153,10 +156,10 @@ module _ (parts : Parts) (document : Document) (place slot : ℕ) (stands : Stan
   pub name-is : widget.name ≡ sits.seat.name
   name-is = ap (λ (w : Widget). w.name) sits.widget
 
-  pub tags-mean : (word : List ℕ) → option_map (λ tag. view.shown_flags tag parts.content start end)
+  pub tags-mean : (word : List ℕ) → option_map (λ tag. view.shown_flags tag part)
       (known_tags parts.tags.tags slot word) ≡ option_map (tag_flags document widget) (tag_number document word)
   tags-mean word =
-      let flags_so : Option ℕ → Option _ = option_map (λ tag. view.shown_flags tag parts.content start end) in
+      let flags_so : Option ℕ → Option _ = option_map (λ tag. view.shown_flags tag part) in
       let known_so : Option ℕ → Option ℕ = option_map (λ tag. if tag == 0 then slot else tag) in
       let names : List (List ℕ) = names_of parts.tags.tags in
       let tags : document.tags ≡ names = ap (λ (d : Document). d.tags) (sym stands.is) in
@@ -177,26 +180,30 @@ module _ (parts : Parts) (document : Document) (place slot : ℕ) (stands : Stan
             ∙ ap Some (let h : 0 + there.place ≡ there.place = omega arith in h)))
       ]
 
-  pub meanings-same : MeanTheSame (shown_meanings parts.marks.marks parts.tags.tags slot parts.content start end)
+  pub meanings-same : MeanTheSame (shown_meanings parts.marks.marks parts.tags.tags slot part)
       (meanings document widget)
   meanings-same = record { marks = marks-mean; tags = tags-mean }
 
   -- the place of a word is the one of the definition
   pub place-is : (word : List ℕ)
-      → word_value is_word (shown_meanings parts.marks.marks parts.tags.tags slot parts.content start end)
-      (view.shown parts.content start end) word ≡ place_of document widget word
+      → word_value is_word (shown_meanings parts.marks.marks parts.tags.tags slot part)
+      (view.shown part) word ≡ place_of document widget word
   place-is word =
-      ap (λ text. word_value is_word (shown_meanings parts.marks.marks parts.tags.tags slot parts.content start end)
+      ap (λ text. word_value is_word (shown_meanings parts.marks.marks parts.tags.tags slot part)
       text word) (sym (shown-is parts document place slot stands sits))
       ∙ word_value-same is_word _ _ (shown document widget) word meanings-same
 
 pub place-found : {parts : Parts} {document : Document} {place slot : ℕ} {content : Content} {first behind : ℕ}
     (word : List ℕ) → IsSeen parts document place slot content first behind
-    → word_value is_word (shown_meanings parts.marks.marks parts.tags.tags slot content first behind)
-    (view.shown content first behind) word ≡ place_of document (widget_at document place) word
+    → word_value is_word (shown_meanings parts.marks.marks parts.tags.tags slot (record {
+      content = content;
+      start = first;
+      end = behind;
+    })) (view.shown (record { content = content; start = first; end = behind })) word
+    ≡ place_of document (widget_at document place) word
 place-found {parts} {document} {place} {slot} word seen =
-    (λ i. word_value is_word (shown_meanings parts.marks.marks parts.tags.tags slot (seen.held i) (seen.starts i)
-    (seen.ends i)) (view.shown (seen.held i) (seen.starts i) (seen.ends i)) word)
+    ap (λ (part : Part). word_value is_word (shown_meanings parts.marks.marks parts.tags.tags slot part) (view.shown part)
+    word) (part-found seen)
     ∙ place-is parts document place slot seen.stands seen.sits word
 
 -- want of memory is want of memory

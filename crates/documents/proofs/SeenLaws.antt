@@ -1,17 +1,17 @@
 -- What a widget sees of its view, by the store and the tables of its document.
-use Rattle.documents.proofs.Common.{◌≡◌, ℕ, zero, suc, ◌+◌, ◌-◌, List, [], ◌∷◌, map, sym, refl, ap, ap₂, ◌∙◌, arith}
-use Rattle.documents.proofs.Common.{slice_get, slice_index_or, usable, Shown, Tag, tag_ranges, Content, map-alike}
+use Rattle.documents.proofs.Common.{Part, ◌≡◌, ℕ, zero, suc, ◌+◌, ◌-◌, List, [], ◌∷◌, map, sym, refl, ap, ap₂, ◌∙◌}
+use Rattle.documents.proofs.Common.{arith, slice_get, slice_index_or, Shown, Tag, tag_ranges, Content, map-alike}
 use Rattle.documents.proofs.Common.{map-map, name_of_rank, seen_by, literal, Document, Parts, Widget, widget_at}
 use Rattle.documents.proofs.Common.{key_named, Stands, mark_names, usable_marks, shown_flags, Bool, Some, names_of}
-use Rattle.documents.proofs.Common.{known_standing, shifted}
-use Rattle.mark_table.specs.SharedMarks.{names_of as mark_names_of, numbers_of}
+use Rattle.documents.proofs.Common.{known_standing, shifted, usable_by, Outlook}
+use Rattle.mark_table.specs.SharedMarks.{names_of as mark_names_of}
 use Rattle.search_dump.specs.Dump.{own_slot}
 use Rattle.documents.specs.Queries.{mark_seen, seen, tag_seen}
 use Rattle.documents.proofs.MarkOrderLaws.{usable-is}
 use Rattle.documents.proofs.MeaningLaws.{current_bytes, insert_bytes, name-is}
 use Rattle.documents.proofs.PartsLaws.{Sits}
 use Rattle.documents.proofs.PlacedLaws.{placed-names}
-use Rattle.documents.proofs.ViewLaws.{IsSeen, end_in, flags-is, shown-is, start_in}
+use Rattle.documents.proofs.ViewLaws.{IsSeen, end_in, flags-is, part-found, shown-is, start_in}
 use Rattle.search_dump.specs.Dump as dump
 
 -- what is made of each tag is made of its name
@@ -39,11 +39,19 @@ module _ (parts : Parts) (document : Document) (place slot : ℕ) (stands : Stan
   abbrev end : ℕ
   end = end_in parts slot
 
-  tags-seen : map (dump.tag_seen parts.content start end slot) parts.tags.tags
+  abbrev outlook : Outlook
+  outlook = record {
+    part = record { content = parts.content; start = start; end = end };
+    tags = parts.tags.tags;
+    marks = parts.marks.marks;
+    widget = slot;
+  }
+
+  tags-seen : map (dump.tag_seen outlook) parts.tags.tags
       ≡ map (tag_seen document widget) document.tags
   tags-seen =
       let apart = stands.sound.kept.tags.names_apart in
-      map-named (dump.tag_seen parts.content start end slot) (tag_seen document widget) parts.tags.tags
+      map-named (dump.tag_seen outlook) (tag_seen document widget) parts.tags.tags
       (λ at tag is. ap (λ (flags : List Bool). record { name = tag.name; ranges = tag_ranges flags })
       (sym (flags-is parts document place slot stands sits tag.name (own_slot slot tag.slot)
       (known_standing parts.tags.tags at tag slot apart is))
@@ -55,9 +63,7 @@ module _ (parts : Parts) (document : Document) (place slot : ℕ) (stands : Stan
   names-are = ap (λ names. literal "insert" ∷ literal "current" ∷ names)
       (sym (placed-names parts.content.marks parts.marks.marks)) ∙ ap mark_names stands.is
 
-  marks-seen : map (dump.mark_seen parts.marks.marks start)
-      (usable (record { widget = record { 0 = slot }; start = start; end = end }) parts.content.marks
-      (numbers_of parts.marks.marks))
+  marks-seen : map (dump.mark_seen parts.marks.marks start) (usable_by outlook)
       ≡ map (mark_seen document) (usable_marks document widget)
   marks-seen =
       ap (map (dump.mark_seen parts.marks.marks start)) (usable-is parts document place slot stands sits)
@@ -69,7 +75,7 @@ module _ (parts : Parts) (document : Document) (place slot : ℕ) (stands : Stan
       (let same : mark.place + start - start ≡ mark.place = omega arith in same))
       (usable_marks document widget)
 
-  seen-is : seen_by parts.content start end parts.tags.tags parts.marks.marks slot ≡ seen document widget
+  seen-is : seen_by outlook ≡ seen document widget
   seen-is = λ i. record {
     text = sym (shown-is parts document place slot stands sits) i;
     tags = tags-seen i;
@@ -79,7 +85,17 @@ module _ (parts : Parts) (document : Document) (place slot : ℕ) (stands : Stan
 -- the same of a view as it was found
 pub seen-found : {parts : Parts} {document : Document} {place slot : ℕ} {content : Content} {first behind : ℕ} →
     IsSeen parts document place slot content first behind
-    → seen_by content first behind parts.tags.tags parts.marks.marks slot ≡ seen document (widget_at document place)
+    → seen_by (record {
+      part = record { content = content; start = first; end = behind };
+      tags = parts.tags.tags;
+      marks = parts.marks.marks;
+      widget = slot;
+    }) ≡ seen document (widget_at document place)
 seen-found {parts} {document} {place} {slot} found =
-    (λ i. seen_by (found.held i) (found.starts i) (found.ends i) parts.tags.tags parts.marks.marks slot)
+    ap (λ (part : Part). seen_by (record {
+      part = part;
+      tags = parts.tags.tags;
+      marks = parts.marks.marks;
+      widget = slot;
+    })) (part-found found)
     ∙ seen-is parts document place slot found.stands found.sits

@@ -8,7 +8,7 @@ use Rattle.documents.proofs.Common.{key_named, Stands, tags_on, shown, shown_fla
 use Rattle.documents.proofs.Common.{filter, names_of, known_standing, flag_at}
 use Rattle.documents.specs.Tags.{flags_of}
 use Rattle.documents.proofs.SpanLaws.{slot_known, slot_unknown}
-use Rattle.documents.proofs.ViewLaws.{IsSeen, flags-is}
+use Rattle.documents.proofs.ViewLaws.{IsSeen, flags-is, part-found}
 use Rattle.std.specs.FinSet as set
 use Rattle.text_index.specs.Views as view
 
@@ -22,15 +22,15 @@ module _ {parts : Parts} {document : Document} {place slot : ℕ} {content : Con
   among-kept name = ap (λ (d : Document). is_among name d.tags) (sym seen.stands.is)
 
   flags-seen : (name : List ℕ) (tag : ℕ) → known_tags parts.tags.tags slot name ≡ Some tag →
-      view.shown_flags tag content first behind ≡ shown_flags document widget (key_named widget.name name)
+      view.shown_flags tag (record { content = content; start = first; end = behind }) ≡ shown_flags document widget (key_named widget.name name)
   flags-seen name tag known =
-      (λ i. view.shown_flags tag (seen.held i) (seen.starts i) (seen.ends i))
+      ap (view.shown_flags tag) (part-found seen)
       ∙ sym (flags-is parts document place slot seen.stands seen.sits name tag known)
       ∙ ap (λ n. shown_flags document widget (key_named n name)) (ap (λ (w : Widget). w.name) (sym seen.sits.widget))
 
   -- the flags of a tag that is known
   pub flags-known : (name : List ℕ) (tag : ℕ) → Some tag ≡ known_tags parts.tags.tags slot name →
-      view.shown_flags tag content first behind ≡ flags_of document widget name
+      view.shown_flags tag (record { content = content; start = first; end = behind }) ≡ flags_of document widget name
   flags-known name tag known =
       flags-seen name tag (sym known)
       ∙ sym (ap (λ b. if b then shown_flags document widget (key_named widget.name name) else []) (among-kept name

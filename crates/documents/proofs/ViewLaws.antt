@@ -1,12 +1,12 @@
 -- What of a document one of its widgets shows.
-use Rattle.documents.proofs.Common.{[], inl, inr, min, suc, zero, ◌≡◌, ℕ, ◌+◌, ◌-◌, ◌<◌, ◌≤◌, true, false, List, length}
-use Rattle.documents.proofs.Common.{map, refl, sym, ap, ap₂, subst, ◌∙◌, arith, drop, take, true≢false, ◌≢◌, eq-eqb}
-use Rattle.documents.proofs.Common.{slice_get, IfSome, slice_index_or, slice_range, unwrap_or, cases_lt, drop_all}
-use Rattle.documents.proofs.Common.{drop-drop, drop-take, get_or_default, length-map, length-take-le, take-take}
-use Rattle.documents.proofs.Common.{numbers_of, Cell, Content, flags, IsLineStart, IsView, known_tags, Anchors}
-use Rattle.documents.proofs.Common.{is-start, text-end-begins, Document, KeyedCell, Parts, Widget, anchors_at, whole}
-use Rattle.documents.proofs.Common.{widget_at, Key, key_named, Stands, is_idle, shown, shown_flags, view_end}
-use Rattle.documents.proofs.Common.{view_start, length-drop, Bool, ◌||◌, ◌==◌, None, Option, Some, get_or, keyed-flags}
+use Rattle.documents.proofs.Common.{Part, part_between, [], inl, inr, min, suc, zero, ◌≡◌, ℕ, ◌+◌, ◌-◌, ◌<◌, ◌≤◌, true}
+use Rattle.documents.proofs.Common.{false, List, length, map, refl, sym, ap, ap₂, subst, ◌∙◌, arith, drop, take}
+use Rattle.documents.proofs.Common.{true≢false, ◌≢◌, eq-eqb, slice_get, IfSome, slice_index_or, slice_range, unwrap_or}
+use Rattle.documents.proofs.Common.{cases_lt, drop_all, get_or_default, length-map, length-take-le, numbers_of, Cell}
+use Rattle.documents.proofs.Common.{Content, flags, IsLineStart, IsView, known_tags, Anchors, is-start, text-end-begins}
+use Rattle.documents.proofs.Common.{Document, KeyedCell, Parts, Widget, anchors_at, whole, widget_at, Key, key_named}
+use Rattle.documents.proofs.Common.{Stands, is_idle, shown, shown_flags, view_end, view_start, length-drop, Bool, ◌||◌}
+use Rattle.documents.proofs.Common.{◌==◌, None, Option, Some, get_or, keyed-flags}
 use Rattle.documents.proofs.PartsLaws.{Sits, cells-kept, characters-kept, sits}
 use Rattle.std.specs.FinSet as set
 use Rattle.text_model.specs.Content as model
@@ -44,33 +44,20 @@ pub neither : (a b : Bool) → (a || b) ≡ false → (a ≡ false) × (b ≡ fa
 neither true b none = absurd (true≢false none)
 neither false b none = (refl, none)
 
--- a part of a part, which may end before it begins
-pub part-of-part : {A : Type 0} (xs : List A) (start end from to past : ℕ) → start + from ≤ end → start + past ≤ end →
-    past - from ≡ to - from
-    → slice_range xs (start + from) (start + past) ≡ slice_range (slice_range xs start end) from to
-part-of-part xs start end from to past begins within count =
-    let rest : ℕ = end - start - from in
-    ap (λ n. take n (drop (start + from) xs)) (let h : start + past - (start + from)
-    ≡ to - from = omega (arith, count) in h)
-    ∙ ap (take (to - from)) (sym (drop-drop from start xs))
-    ∙ sym (take-take (to - from) rest (drop from (drop start xs)) (omega (arith, begins, within, count)))
-    ∙ ap (take (to - from)) (sym (drop-take from rest (drop start xs)))
-    ∙ ap (λ n. take (to - from) (drop from (take n (drop start xs)))) (let h : from + rest
-    ≡ end - start = omega (arith, begins) in h)
+-- a part that ends at a place, or before it begins
+pub part-past : {A : Type 0} (xs : List A) (from to past : ℕ) → past - from ≡ to - from →
+    slice_range xs from past ≡ slice_range xs from to
+part-past xs from to past count = ap (λ n. take n (drop from xs)) count
 
--- one element of a part, or none at its end
-pub part-one : {A : Type 0} (xs : List A) (start end at stop : ℕ) → start + at ≤ end → end ≤ length xs →
-    stop ≡ min (start + at + 1) end
-    → slice_range xs (start + at) stop ≡ slice_range (slice_range xs start end) at (suc at)
-part-one xs start end at stop begins within is =
-    elim (cases_lt (start + at) end) [
-      | inl before ↦
-          ap (slice_range xs (start + at)) (let h : stop ≡ start + suc at = omega (arith, is, before) in h)
-          ∙ part-of-part xs start end at (suc at) (suc at) begins (omega (arith, before)) refl
+-- one element, or none at the end
+pub part-one : {A : Type 0} (xs : List A) (at stop : ℕ) → stop ≡ min (at + 1) (length xs) →
+    slice_range xs at stop ≡ slice_range xs at (suc at)
+part-one xs at stop is =
+    elim (cases_lt at (length xs)) [
+      | inl before ↦ part-past xs at (suc at) stop (omega (arith, is, before))
       | inr past ↦
-          ap (λ n. take n (drop (start + at) xs)) (let h : stop - (start + at) ≡ 0 = omega (arith, is, past) in h)
-          ∙ sym (ap (take (suc at - at)) (drop_all at (slice_range xs start end)
-          (omega (arith, past, part-length xs start end within))) ∙ none (suc at - at))
+          ap (take (stop - at)) (drop_all at xs past) ∙ none (stop - at)
+          ∙ sym (ap (take (suc at - at)) (drop_all at xs past) ∙ none (suc at - at))
     ]
   where
     none : {B : Type 0} (n : ℕ) → take {A = B} n [] ≡ []
@@ -93,7 +80,7 @@ module _ (parts : Parts) (document : Document) (place slot : ℕ) (stands : Stan
       ∙ ap (unwrap_or (anchors_at parts.journal slot).end) (cells-kept parts document stands.is)
 
   -- whole lines of the text
-  pub view-is : IsView parts.content (start_in parts slot) (end_in parts slot)
+  pub view-is : IsView (record { content = parts.content; start = start_in parts slot; end = end_in parts slot })
   view-is =
       let text : List ℕ = model.characters parts.content.cells in
       let long : length text ≡ length parts.content.cells = counted parts.content in
@@ -117,7 +104,7 @@ module _ (parts : Parts) (document : Document) (place slot : ℕ) (stands : Stan
   within-is = let h = view-is.behind.within in omega (arith, h, counted parts.content)
 
   -- its characters
-  pub shown-is : shown document widget ≡ view.shown parts.content (start_in parts slot) (end_in parts slot)
+  pub shown-is : shown document widget ≡ view.shown (record { content = parts.content; start = start_in parts slot; end = end_in parts slot })
   shown-is =
       ap (λ text. slice_range text (view_start widget) (view_end document widget))
       (characters-kept parts document stands.is)
@@ -131,7 +118,7 @@ module _ (parts : Parts) (document : Document) (place slot : ℕ) (stands : Stan
   -- which of its cells have the key of a name
   pub flags-is : (name : List ℕ) (tag : ℕ) → known_tags parts.tags.tags slot name ≡ Some tag
       → shown_flags document widget (key_named sits.seat.name name)
-      ≡ view.shown_flags tag parts.content (start_in parts slot) (end_in parts slot)
+      ≡ view.shown_flags tag (record { content = parts.content; start = start_in parts slot; end = end_in parts slot })
   flags-is name tag known =
       let to_seat : known_tags parts.tags.tags sits.seat.number name
       ≡ Some tag = ap (λ n. known_tags parts.tags.tags n name) sits.number ∙ known in
@@ -195,15 +182,27 @@ see {place = place} stands number found start end held =
     let ends = see-ends {place = place} stands number found start found refl end in
     record { stands = stands; sits = ends.sits; held = held; starts = ends.starts; ends = ends.ends }
 
+-- the same of a view, by its part
+pub see-part : {parts : Parts} {document : Document} {place slot : ℕ} {part : Part} {anchors : List Anchors} →
+    Stands parts document → slice_get (numbers_of parts.seats.entries) place ≡ Some slot →
+    anchors ≡ parts.journal.anchors → part ≡ part_between parts.content anchors slot →
+    IsSeen parts document place slot part.content part.start part.end
+see-part {place = place} stands number found is = see {place = place} stands number found
+    (ap (λ (part : Part). part.start) is) (ap (λ (part : Part). part.end) is) (ap (λ (part : Part). part.content) is)
+
 module _ {parts : Parts} {document : Document} {place slot : ℕ} {content : Content} {first behind : ℕ}
     (seen : IsSeen parts document place slot content first behind) where
-  pub view-found : IsView content first behind
-  view-found =
-      subst (λ (v : Content × ℕ × ℕ). IsView v.0 v.1 v.2) (λ i. (sym seen.held i, sym seen.starts i, sym seen.ends i))
-      (view-is parts document place slot seen.stands seen.sits)
+  abbrev pub part : Part
+  part = record { content = content; start = first; end = behind }
 
-  pub shown-found : view.shown content first behind ≡ shown document (widget_at document place)
-  shown-found = (λ i. view.shown (seen.held i) (seen.starts i) (seen.ends i))
+  pub part-found : part ≡ record { content = parts.content; start = start_in parts slot; end = end_in parts slot }
+  part-found = λ i. record { content = seen.held i; start = seen.starts i; end = seen.ends i }
+
+  pub view-found : IsView part
+  view-found = subst IsView (sym part-found) (view-is parts document place slot seen.stands seen.sits)
+
+  pub shown-found : view.shown part ≡ shown document (widget_at document place)
+  shown-found = ap view.shown part-found
       ∙ sym (shown-is parts document place slot seen.stands seen.sits)
 
   -- how much of it is shown

@@ -1,8 +1,11 @@
 -- The part of a document that a widget shows.
-use Rattle.std.specs.Prelude.{ℕ, Bool, ◌||◌, ◌==◌, List, length, map, slice_range, unwrap_or}
+use Rattle.std.specs.Prelude.{ℕ, Bool, ◌||◌, ◌==◌, List, get_or, length, map, slice_range, unwrap_or}
 use Rattle.std.specs.FinSet as set
 use Rattle.reports.specs.declared.keys.Key.{Key}
-use Rattle.documents.specs.Documents.{Widget, Document}
+use Rattle.edit_ops.specs.declared.anchors.Anchors.{Anchors}
+use Rattle.text_index.specs.Views.{Part}
+use Rattle.text_model.specs.Content.{Content}
+use Rattle.documents.specs.Documents.{Widget, Document, whole}
 use Rattle.reports.specs.Cells.{KeyedCell, characters}
 
 abbrev pub view_start : Widget → ℕ
@@ -10,6 +13,14 @@ view_start widget = unwrap_or widget.start 0
 
 abbrev pub view_end : Document → Widget → ℕ
 view_end document widget = unwrap_or widget.end (length document.cells)
+
+-- the part of a text between the anchors of a slot
+abbrev pub part_between : Content → List Anchors → ℕ → Part
+part_between content anchors slot = record {
+  content = content;
+  start = unwrap_or (get_or anchors slot whole).start 0;
+  end = unwrap_or (get_or anchors slot whole).end (length content.cells);
+}
 
 -- the characters from the start of the view to its end
 abbrev pub shown : Document → Widget → List ℕ

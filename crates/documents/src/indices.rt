@@ -50,7 +50,7 @@ impl<S: TextStore> Document<S> {
         ensures { result ≡ length (shown self.now (widget_at self.now seat)) }
     {
         let view = self.view_at(seat);
-        view.e - view.s
+        view.end - view.start
     }
 
     /// A place as `line.char`.

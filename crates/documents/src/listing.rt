@@ -10,7 +10,8 @@ ghost use Rattle.text_model.specs.Lines.{IsLineOf};
 ghost use Rattle.text_model.specs.TagBits.{slot_count};
 ghost use Rattle.text_index.specs.Positions.{position_text};
 ghost use Rattle.text_index.specs.Ranges.{tag_ranges, next_range, previous_range};
-ghost use Rattle.text_index.specs.Views.{shown, shown_flags, IsView};
+ghost use Rattle.text_index.specs.Parts.{part_of};
+ghost use Rattle.text_index.specs.Views.{shown, shown_flags};
 ghost use Rattle.text_model.specs.declared.limits.TheConstants.Limits.{MOST_WIDGETS};
 ghost use Rattle.command_effects.specs.Tagging.{own_slot};
 ghost use Rattle.documents.specs.Listing.{range_words, begun, is_filled};
@@ -41,11 +42,10 @@ pub fn push_range<S: TextStore>(
     view: &View<'_, S>,
     range: TagRange,
 ) -> Result<(), AllocError>
-    requires view { IsView (S.content view.now.store.now) view.now.s view.now.e }
-    requires start { view.now.s + range.start ≤ view.now.e }
-    requires end { view.now.s + range.end ≤ view.now.e }
+    requires start { view.now.start + range.start ≤ view.now.end }
+    requires end { view.now.start + range.end ≤ view.now.end }
     ensures { OnOk result (Goes (string_bytes list.old) (string_bytes list.new)
-        (range_words (shown (S.content view.now.store.now) view.now.s view.now.e) (range ∷ []))) }
+        (range_words (shown (part_of view.now)) (range ∷ []))) }
 {
     let first = view.line_at(range.start);
     push_place(list, first, range.start)?;
@@ -59,11 +59,10 @@ pub fn push_ranges<S: TextStore>(
     view: &View<'_, S>,
     slot: TagSlot,
 ) -> Result<(), AllocError>
-    requires view { IsView (S.content view.now.store.now) view.now.s view.now.e }
     requires slot { slot.0 < slot_count }
     ensures { OnOk result (Goes (string_bytes list.old) (string_bytes list.new)
-        (range_words (shown (S.content view.now.store.now) view.now.s view.now.e)
-        (tag_ranges (shown_flags slot.0 (S.content view.now.store.now) view.now.s view.now.e)))) }
+        (range_words (shown (part_of view.now))
+        (tag_ranges (shown_flags slot.0 (part_of view.now))))) }
 {
     let mut next = next_range(view, slot, 0);
     while let Some(range) = next {
@@ -80,11 +79,10 @@ fn push_wanted_range<S: TextStore>(
     range: TagRange,
     is_wanted: bool,
 ) -> Result<(), AllocError>
-    requires view { IsView (S.content view.now.store.now) view.now.s view.now.e }
-    requires start { view.now.s + range.start ≤ view.now.e }
-    requires end { view.now.s + range.end ≤ view.now.e }
+    requires start { view.now.start + range.start ≤ view.now.end }
+    requires end { view.now.start + range.end ≤ view.now.end }
     ensures { OnOk result (Goes (string_bytes list.old) (string_bytes list.new)
-        (range_words (shown (S.content view.now.store.now) view.now.s view.now.e) (if is_wanted then range ∷ []
+        (range_words (shown (part_of view.now)) (if is_wanted then range ∷ []
         else []))) }
 {
     if !is_wanted {
@@ -102,13 +100,12 @@ pub fn push_next<S: TextStore>(
     from: usize,
     to: usize,
 ) -> Result<(), AllocError>
-    requires view { IsView (S.content view.now.store.now) view.now.s view.now.e }
     requires slot { slot.0 < slot_count }
-    requires within { view.now.s + from ≤ view.now.e }
+    requires within { view.now.start + from ≤ view.now.end }
     ensures { OnOk result (Goes (string_bytes list.old) (string_bytes list.new)
-        (range_words (shown (S.content view.now.store.now) view.now.s view.now.e)
+        (range_words (shown (part_of view.now))
         (begun (λ start. nat_lt start to)
-        (next_range (shown_flags slot.0 (S.content view.now.store.now) view.now.s view.now.e) from)))) }
+        (next_range (shown_flags slot.0 (part_of view.now)) from)))) }
 {
     match next_range(view, slot, from) {
         None => Ok(()),
@@ -125,13 +122,12 @@ pub fn push_previous<S: TextStore>(
     from: usize,
     to: usize,
 ) -> Result<(), AllocError>
-    requires view { IsView (S.content view.now.store.now) view.now.s view.now.e }
     requires slot { slot.0 < slot_count }
-    requires within { view.now.s + from ≤ view.now.e }
+    requires within { view.now.start + from ≤ view.now.end }
     ensures { OnOk result (Goes (string_bytes list.old) (string_bytes list.new)
-        (range_words (shown (S.content view.now.store.now) view.now.s view.now.e)
+        (range_words (shown (part_of view.now))
         (begun (λ start. nat_le to start)
-        (previous_range (shown_flags slot.0 (S.content view.now.store.now) view.now.s view.now.e) from)))) }
+        (previous_range (shown_flags slot.0 (part_of view.now)) from)))) }
 {
     match previous_range(view, slot, from) {
         None => Ok(()),

@@ -67,7 +67,7 @@ impl<S: TextStore> Document<S> {
         let view = self.view_at(seat);
         match self.text.store.mark_place(self.marks.number(place)) {
             None => false,
-            Some(found) => view.s <= found.offset && found.offset <= view.e,
+            Some(found) => view.start <= found.offset && found.offset <= view.end,
         }
     }
 
@@ -101,9 +101,9 @@ impl<S: TextStore> Document<S> {
     {
         let view = self.view_at(seat);
         if is_word(name, "insert") || is_word(name, "current") {
-            view.s + place.min((view.e - view.s).saturating_sub(1))
+            view.start + place.min((view.end - view.start).saturating_sub(1))
         } else {
-            view.s + place
+            view.start + place
         }
     }
 

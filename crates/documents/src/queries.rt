@@ -11,7 +11,7 @@ ghost use Rattle.tcl_words.specs.ListText.{list_text};
 
 use crate::documents::Document;
 use crate::views::view_of;
-use search_dump::{Counted, Listed, SearchSwitches, count, dump, search};
+use search_dump::{Counted, Listed, SearchSwitches, Sight, count, dump, search};
 use std::alloc::AllocError;
 use text_index::Names;
 use text_model::{TagSlot, Text, TextStore};
@@ -70,12 +70,16 @@ impl<S: TextStore> Document<S> {
             ≡ list_text (dump_elements listed (seen self.now (widget_at self.now seat)) from to)) }
     {
         let slot = self.seats.number(seat);
+        let view = view_of(&self.text.store, &self.text.anchors, slot).lined();
         let names = Names {
             tags: &self.tags,
             marks: &self.marks,
             widget: TagSlot(slot),
         };
-        let view = view_of(&self.text.store, &self.text.anchors, slot).lined();
-        Ok(Text::new(dump(self.alloc, &view, &names, listed, from, to)?))
+        let sight = Sight {
+            view: &view,
+            names: &names,
+        };
+        Ok(Text::new(dump(self.alloc, &sight, listed, from, to)?))
     }
 }

@@ -28,6 +28,6 @@ impl<S: TextStore> Document<S> {
             &self.text.anchors,
             self.seats.number(seat),
         );
-        spans_of(self.alloc, view.s, view.e - view.s, places)
+        spans_of(self.alloc, view.start, view.end - view.start, places)
     }
 }

@@ -49,8 +49,8 @@ impl<S: TextStore> Document<S> {
         let mut list = String::new(self.alloc);
         let number = self.seats.number(seat);
         let view = view_of(&self.text.store, &self.text.anchors, number);
-        let offset = view.s + place;
-        if offset == view.e {
+        let offset = view.start + place;
+        if offset == view.end {
             return Ok(Text::new(list));
         }
         push_names_in(

@@ -24,7 +24,7 @@ impl<S: TextStore> Document<S> {
         ensures { IfOk result (λ text. text ≡ slice_range (shown self.now (widget_at self.now seat)) from to) }
     {
         let view = self.view_at(seat);
-        Ok(Text::new(view.store.copy_text(view.s + from, view.s + to.max(from))?))
+        Ok(Text::new(view.copy_text(from, to.max(from))?))
     }
 
     /// The character at a place, or nothing at the end.
@@ -35,8 +35,7 @@ impl<S: TextStore> Document<S> {
             ≡ slice_range (shown self.now (widget_at self.now seat)) place (suc place)) }
     {
         let view = self.view_at(seat);
-        let start = view.s + place;
-        Ok(Text::new(view.store.copy_text(start, (start + 1).min(view.e))?))
+        Ok(Text::new(view.copy_text(place, (place + 1).min(view.len()))?))
     }
 
     /// The offset at which a text is inserted for a place: before the last newline where that is the end.
@@ -48,7 +47,7 @@ impl<S: TextStore> Document<S> {
         ensures within { result < length self.now.cells }
     {
         let view = self.view_at(seat);
-        (view.s + place).min(view.e - 1)
+        (view.start + place).min(view.end - 1)
     }
 
     /// Inserts texts at an offset, each after the one before it, and makes the tags of their lists. Returns what that

@@ -2,9 +2,10 @@
 
 ghost use Rattle.std.specs.Prelude.{◌≡◌, ◌-◌, ◌<◌, ◌≤◌, length, get_or, unwrap_or};
 ghost use Rattle.text_model.specs.declared.limits.TheConstants.Limits.{MOST_CHARS};
+ghost use Rattle.text_index.specs.Parts.{part_of};
 ghost use Rattle.text_index.specs.Views.{IsView, shown as shown_in};
 ghost use Rattle.documents.specs.Documents.{whole, widget_at};
-ghost use Rattle.documents.specs.Views.{shown, view_end, view_start};
+ghost use Rattle.documents.specs.Views.{part_between, shown, view_end, view_start};
 
 use crate::documents::Document;
 use edit_ops::Anchors;
@@ -30,10 +31,9 @@ pub fn end_of(anchors: &[Anchors], slot: u16, len: usize) -> usize
 
 /// The view of a slot.
 pub fn view_of<'a, S: TextStore>(store: &'a S, anchors: &[Anchors], slot: u16) -> View<'a, S>
-    requires { slot < length anchors.now }
-    ensures start { result.s ≡ unwrap_or (get_or anchors.now slot whole).start 0 }
-    ensures end { result.e ≡ unwrap_or (get_or anchors.now slot whole).end (length (S.content store.now).cells) }
-    ensures store { S.content result.store.now ≡ S.content store.now }
+    requires slot { slot < length anchors.now }
+    requires lines { IsView (part_between (S.content store.now) anchors.now slot) }
+    ensures { part_of result ≡ part_between (S.content store.now) anchors.now slot }
 {
     View::new(
         store,
@@ -62,14 +62,12 @@ impl<S: TextStore> Document<S> {
     /// The view of a widget.
     pub(crate) fn view_at(&self, seat: usize) -> View<'_, S>
         requires { seat < length self.now.widgets }
-        ensures lines { IsView (S.content result.store.now) result.s result.e }
-        ensures text { shown_in (S.content result.store.now) result.s result.e
-            ≡ shown self.now (widget_at self.now seat) }
-        ensures start { result.s ≡ view_start (widget_at self.now seat) }
-        ensures end { result.e ≡ view_end self.now (widget_at self.now seat) }
-        ensures count { length (shown self.now (widget_at self.now seat)) ≡ result.e - result.s }
-        ensures ordered { result.s ≤ result.e }
-        ensures within { result.e ≤ length self.now.cells }
+        ensures text { shown_in (part_of result) ≡ shown self.now (widget_at self.now seat) }
+        ensures start { result.start ≡ view_start (widget_at self.now seat) }
+        ensures end { result.end ≡ view_end self.now (widget_at self.now seat) }
+        ensures count { length (shown self.now (widget_at self.now seat)) ≡ result.end - result.start }
+        ensures ordered { result.start ≤ result.end }
+        ensures within { result.end ≤ length self.now.cells }
         ensures cells { length (S.content result.store.now).cells ≡ length self.now.cells }
         ensures short { length self.now.cells ≤ MOST_CHARS }
     {

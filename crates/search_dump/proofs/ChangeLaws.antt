@@ -1,12 +1,11 @@
 -- Where the tags of a view change next.
-use Rattle.search_dump.proofs.Common.{◌≡◌, ℕ, zero, suc, inl, inr, ◌+◌, ◌-◌, ◌<◌, ◌≤◌, ◌&&◌, ◌||◌, ◌==◌, min, Bool}
-use Rattle.search_dump.proofs.Common.{true, false, ◌≢◌, List, [], ◌∷◌, length, drop, set, refl, sym, subst, ap, ap₂}
-use Rattle.search_dump.proofs.Common.{◌∙◌, arith, not, slice_index_or, list_any, prefix_len, cases_Bool, cases_eq}
-use Rattle.search_dump.proofs.Common.{cases_lt, cond-false, cond-true, false≢true, lt-ltb, true≢false, drop-drop}
-use Rattle.search_dump.proofs.Common.{drop_more, get_or-set_other, get_or-set_same, length-set, flag_at, is_alike}
-use Rattle.search_dump.proofs.Common.{next_change, Content, Tag, slots_of, tag_ranges, shown_flags, TagRange}
-use Rattle.search_dump.proofs.Common.{next-alike, next-other, AreAhead, IsKnown, IsNearest, change_after, slot_of_row}
-use Rattle.search_dump.proofs.Common.{flag_before, IsView, flags, length-part, flags-within}
+use Rattle.search_dump.proofs.Common.{outlook, Outlook, slot_at, ◌≡◌, ℕ, zero, suc, inl, inr, ◌+◌, ◌-◌, ◌<◌, ◌≤◌, ◌&&◌}
+use Rattle.search_dump.proofs.Common.{◌||◌, ◌==◌, min, Bool, true, false, ◌≢◌, List, [], ◌∷◌, length, drop, set, refl}
+use Rattle.search_dump.proofs.Common.{sym, subst, ap, ap₂, ◌∙◌, arith, not, slice_index_or, list_any, prefix_len}
+use Rattle.search_dump.proofs.Common.{cases_Bool, cases_eq, cases_lt, cond-false, cond-true, false≢true, lt-ltb}
+use Rattle.search_dump.proofs.Common.{true≢false, drop-drop, drop_more, get_or-set_other, get_or-set_same, length-set}
+use Rattle.search_dump.proofs.Common.{flag_at, is_alike, next_change, tag_ranges, shown_flags, TagRange, next-alike}
+use Rattle.search_dump.proofs.Common.{next-other, AreAhead, IsKnown, IsNearest, change_after, flag_before, flags}
 use Rattle.search_dump.proofs.DumpLaws.{begins-is, ends-is}
 
 -- one row more
@@ -117,41 +116,41 @@ flag-other flags at k is within =
     ∙ other-flag (flag_at flags at) (flag_at flags (next_change flags at)) (next-other flags at (omega (arith, is)))
 
 -- what is known at a place is known behind it
-pub ahead-on : (content : Content) (start end : ℕ) (tags : List Tag) (widget place later : ℕ) (next : List ℕ) →
-    AreAhead content start end tags widget place next → place ≤ later →
-    AreAhead content start end tags widget later next
-ahead-on content start end tags widget place later next ahead from =
+pub ahead-on : (outlook : Outlook) (place later : ℕ) (next : List ℕ) →
+    AreAhead outlook place next → place ≤ later →
+    AreAhead outlook later next
+ahead-on outlook place later next ahead from =
     record {
       rows = ahead.rows;
       each = λ at within above.
           let known = ahead.each at within (omega arith) in
-          known ∙ sym (next-same (shown_flags (slot_of_row widget (slots_of tags) at) content start end) place later from
+          known ∙ sym (next-same (shown_flags (slot_at outlook at) outlook.part) place later from
           (omega (arith, known)));
     }
 
 -- one row is looked up
-module _ {content : Content} {start end : ℕ} {tags : List Tag} {widget place change : ℕ} {old new : List ℕ} (at : ℕ)
-    (ahead : AreAhead content start end tags widget place old) (within : at < length tags) (is : new ≡ set old at change)
-    (known : change ≡ change_after content start end place (slot_of_row widget (slots_of tags) at)) where
-  pub put-known : IsKnown content start end tags widget place new at
+module _ {outlook : Outlook} {place change : ℕ} {old new : List ℕ} (at : ℕ)
+    (ahead : AreAhead outlook place old) (within : at < length outlook.tags) (is : new ≡ set old at change)
+    (known : change ≡ change_after outlook.part place (slot_at outlook at)) where
+  pub put-known : IsKnown outlook place new at
   put-known =
       ap (λ xs. slice_index_or xs at 0) is ∙ get_or-set_same old at change 0 (omega (arith, within, ahead.rows)) ∙ known
 
-  put-there : (other : ℕ) → other ≡ at → IsKnown content start end tags widget place new other
-  put-there other same = subst (IsKnown content start end tags widget place new) (sym same) put-known
+  put-there : (other : ℕ) → other ≡ at → IsKnown outlook place new other
+  put-there other same = subst (IsKnown outlook place new) (sym same) put-known
 
   put-apart : (other : ℕ) → other ≢ at → slice_index_or new other 0 ≡ slice_index_or old other 0
   put-apart other apart = ap (λ xs. slice_index_or xs other 0) is ∙ get_or-set_other old at other change 0 apart
 
-  pub put-keeps : (other : ℕ) → IsKnown content start end tags widget place old other →
-      IsKnown content start end tags widget place new other
+  pub put-keeps : (other : ℕ) → IsKnown outlook place old other →
+      IsKnown outlook place new other
   put-keeps other was =
       elim (cases_eq other at) [
         | inl same ↦ put-there other same
         | inr apart ↦ put-apart other apart ∙ was
       ]
 
-  pub put-ahead : AreAhead content start end tags widget place new
+  pub put-ahead : AreAhead outlook place new
   put-ahead =
       record {
         rows = ap length is ∙ length-set old at change ∙ ahead.rows;
@@ -161,12 +160,6 @@ module _ {content : Content} {start end : ℕ} {tags : List Tag} {widget place c
               | inr apart ↦ put-keeps other (ahead.each other inside (omega (arith, above, put-apart other apart)))
             ];
       }
-
--- a view has as many flags of a slot as places
-pub length-flags : (content : Content) (start end : ℕ) → IsView content start end → (slot : ℕ) →
-    length (shown_flags slot content start end) ≡ end - start
-length-flags content start end view slot =
-    length-part (flags slot content.cells) start end (flags-within content slot start end view) view.ordered
 
 alike-itself : (flag : Bool) → is_alike flag flag ≡ true
 alike-itself true = refl

@@ -11,20 +11,19 @@ pub use Rattle.mark_table.specs.Order.{shared_mark, shared_marks, shown_mark}
 pub use Rattle.mark_table.specs.SharedMarks.{Mark, names_of, numbers_of}
 pub use Rattle.mark_table.specs.declared.order.Shown.{Shown}
 pub use Rattle.search_dump.specs.Ahead.{AreAhead, AreAt, AreBefore, AreKept, AreKnownTo, AreTurned, IsKnown, IsNearest}
-pub use Rattle.search_dump.specs.Ahead.{IsTurned, change_after, slot_of_row, turned_at}
+pub use Rattle.search_dump.specs.Ahead.{IsTurned, change_after, slot_at, slot_of_row, turned_at}
 pub use Rattle.search_dump.specs.Copies.{AreLeft, left_of}
 pub use Rattle.search_dump.specs.Counts.{counted, difference, distance}
-pub use Rattle.search_dump.specs.Dump.{Marked, Seen, Tagged, begins_at, dump_elements, element, elements_at}
+pub use Rattle.search_dump.specs.Dump.{Marked, Outlook, Seen, Tagged, begins_at, dump_elements, element, elements_at}
 pub use Rattle.search_dump.specs.Dump.{elements_at_end, ends_at, flag_before, if_listed, is_cut, mark_elements}
 pub use Rattle.search_dump.specs.Dump.{mark_seen, name_of_rank, only_in, own_slot, piece, seen_by, stands_at, tag_seen}
-pub use Rattle.search_dump.specs.Dump.{tagoff_elements, tagon_elements, text_elements}
-pub use Rattle.search_dump.specs.MarksAhead.{Has, IsMarkBehind, IsMarkFrom, is_before, mark_element, own_place_in}
-pub use Rattle.search_dump.specs.MarksAhead.{passed, place_in, shared_place_in, shown_of, usable_by}
+pub use Rattle.search_dump.specs.Dump.{tagoff_elements, tagon_elements, text_elements, usable_by}
+pub use Rattle.search_dump.specs.MarksAhead.{Has, IsFirstMark, IsMarkBehind, IsMarkFrom, is_before, mark_element}
+pub use Rattle.search_dump.specs.MarksAhead.{own_place_in, passed, place_in, shared_place_in, shown_of}
 pub use Rattle.search_dump.specs.Matches.{apart, bound, candidates, compared, found_places, limit, matches, matches_at}
 pub use Rattle.search_dump.specs.Matches.{places, shares, wanted_of}
 pub use Rattle.search_dump.specs.Searched.{listed_in, listed_whole, searched}
-pub use Rattle.search_dump.specs.Sight.{AreChangesAhead, AreTagsAt, AreTagsBefore, IsChangeKnown, IsFirstMark}
-pub use Rattle.search_dump.specs.Sight.{IsNextTurn, IsQuietBesides, marks_in, seen_in, text_in}
+pub use Rattle.search_dump.specs.Sights.{outlook}
 pub use Rattle.search_dump.specs.Spots.{IsSpot}
 pub use Rattle.search_dump.specs.Stops.{FailsBetween, IsNextStop, IsStop, has_mark_at, has_tag_at, stop_at_mark}
 pub use Rattle.search_dump.specs.Stops.{stops_at_marks, stops_at_tags, tag_stops}
@@ -74,16 +73,17 @@ pub use Rattle.tcl_words.proofs.ListGrowth.{goes_all, goes_mapped, goes_nowhere,
 pub use Rattle.tcl_words.proofs.PlainElements.{goes-place, goes-plain}
 pub use Rattle.tcl_words.specs.ListGrowth.{Goes}
 pub use Rattle.tcl_words.specs.ListText.{list_text, needs_quotes}
-pub use Rattle.text_index.proofs.FlagLaws.{flags-within, length-part, next-alike, next-other, part-flag}
+pub use Rattle.text_index.proofs.FlagLaws.{length-shown_flags, next-alike, next-other, part-flag}
 pub use Rattle.text_index.proofs.ViewLaws.{before-end, length-shown, line_start-before, lines-of-part, lines-part}
 pub use Rattle.text_index.proofs.ViewLaws.{take-apart}
+pub use Rattle.text_index.specs.Parts.{part_of}
 pub use Rattle.text_index.specs.Positions.{position_text}
 pub use Rattle.text_index.specs.Ranges.{is_set, ranges_behind, tag_ranges}
 pub use Rattle.text_index.specs.Values.{column_of}
-pub use Rattle.text_index.specs.Views.{IsView, shown, shown_flags}
+pub use Rattle.text_index.specs.Views.{IsView, Part, shown, shown_flags}
 pub use Rattle.text_index.specs.declared.ranges.TagRange.{TagRange}
 pub use Rattle.text_model.specs.Changes.{flag_at, is_alike, next_change}
-pub use Rattle.text_model.specs.Content.{Content, Marks, Slots, characters, flags, slot_sets}
+pub use Rattle.text_model.specs.Content.{Marks, Slots, characters, flags, slot_sets}
 pub use Rattle.text_model.specs.Lines.{line_of, line_start, lines}
 pub use Rattle.ucd_case.proofs.CaseFoldingLemmas.{simple_fold-ascii}
 pub use Rattle.ucd_case.specs.CaseFolding.{simple_fold}

@@ -4,26 +4,17 @@ use Rattle.search_dump.proofs.Common.{drop, chars, slice_range, append_cancel_ri
 use Rattle.search_dump.proofs.Common.{length-drop, length-take, take-append-drop, take-take, drop_all, IsCharBoundary}
 use Rattle.search_dump.proofs.Common.{IsUtf8, IsUtf8-take, chars-nil, AreLeft, left_of}
 use Rattle.search_dump.specs.declared.copied.Copied.{Copied}
-use Rattle.search_dump.proofs.WindowLaws.{slice-part}
 
 -- a copy that goes as far as it may
 pub copy-within : (line limit to start end : ℕ) → start ≤ end → limit ≤ end - start → start + to ≤ end →
     start + max (min line limit) to ≤ end
 copy-within line limit to start end ordered far within = omega arith
 
--- the characters from an offset on
-module _ (xs bytes : List ℕ) (start end from to : ℕ) (ordered : from ≤ to) (within : start + to ≤ end)
-    (is : chars bytes ≡ slice_range xs (start + from) (start + to)) where
-  pub copy-counted : end ≤ length xs → to ≡ from + length (chars bytes)
-  copy-counted fits =
-      omega (
-        arith,
-        ap length is ∙ length-take (start + to - (start + from)) (drop (start + from) xs),
-        length-drop (start + from) xs,
-      )
-
-  pub copy-is : chars bytes ≡ slice_range (slice_range xs start end) from to
-  copy-is = is ∙ sym (slice-part xs start end from to ordered within)
+-- how many characters are copied
+pub copy-counted : (text bytes : List ℕ) (from to : ℕ) → from ≤ to → to ≤ length text →
+    chars bytes ≡ slice_range text from to → to ≡ from + length (chars bytes)
+copy-counted text bytes from to ordered within is =
+    omega (arith, ap length is ∙ length-take (to - from) (drop from text), length-drop from text)
 
 -- a part that is cut in two
 module _ {A : Type 0} (xs : List A) (from to end : ℕ) (ordered : from ≤ to) (within : to ≤ end) where

@@ -1,7 +1,7 @@
 -- Where the next line begins.
-use Rattle.search_dump.proofs.Common.{◌≡◌, ℕ, inl, inr, ◌+◌, ◌-◌, ◌<◌, ◌≤◌, ◌⊎◌, ◌==◌, min, List, length, sym, ap, ◌∙◌}
-use Rattle.search_dump.proofs.Common.{arith, cases_lt, eq-eqb, ne_eqb, line_of, line_start, lines, column_of, IsView}
-use Rattle.search_dump.proofs.Common.{shown, Content, characters, before-end, line_start-before, lines-of-part}
+use Rattle.search_dump.proofs.Common.{Part, ◌≡◌, ℕ, inl, inr, ◌+◌, ◌-◌, ◌<◌, ◌≤◌, ◌⊎◌, ◌==◌, min, List, length, sym, ap}
+use Rattle.search_dump.proofs.Common.{◌∙◌, arith, cases_lt, eq-eqb, ne_eqb, line_of, line_start, lines, column_of}
+use Rattle.search_dump.proofs.Common.{IsView, shown, characters, before-end, line_start-before, lines-of-part}
 use Rattle.search_dump.proofs.Common.{lines-part, IsNextStop}
 use Rattle.text_index.proofs.SameLine.{line-before-start, line-of-start}
 
@@ -39,13 +39,13 @@ pub earlier-one : (to next stop : ℕ) → stop ≡ min to next → (stop ≡ to
 earlier-one to next stop is = elim (cases_lt to next) [ inl less ↦ inl (omega arith) | inr more ↦ inr (omega arith) ]
 
 -- a place before the end of a view stands in one of its lines
-pub view-line : (content : Content) (start end place : ℕ) → IsView content start end → start + place < end →
-    line_of (shown content start end) place + 1 ≤ lines (shown content start end)
-view-line content start end place view before =
-    let text = characters content.cells in
+pub view-line : (part : Part) (place : ℕ) → IsView part → part.start + place < part.end →
+    line_of (shown part) place + 1 ≤ lines (shown part)
+view-line part place view before =
+    let text = characters part.content.cells in
     omega (
       arith,
-      before-end text (start + place) end view.behind before,
-      lines-part text start end place (omega arith),
-      lines-of-part text start end view.ordered,
+      before-end text (part.start + place) part.end view.behind before,
+      lines-part text part.start part.end place (omega arith),
+      lines-of-part text part.start part.end view.ordered,
     )

@@ -1,16 +1,16 @@
 -- The order of the marks that a widget can use.
-use Rattle.search_dump.proofs.Common.{◌≡◌, ◌≢◌, ℕ, zero, suc, inl, inr, ◌+◌, ◌-◌, ◌*◌, ◌<◌, ◌≤◌, ◌⊎◌, ◌&&◌, ◌==◌, max}
-use Rattle.search_dump.proofs.Common.{min, Bool, true, false, cond, Option, None, Some, List, [], ◌∷◌, ◌++◌, length}
-use Rattle.search_dump.proofs.Common.{refl, sym, ap, ap₂, subst, ◌∙◌, arith, MatchOption, codes, nat_le, nat_lt, not}
-use Rattle.search_dump.proofs.Common.{slice_get, filter, find, flat_map, fold, option_and_then, option_map, and_parts}
-use Rattle.search_dump.proofs.Common.{and_right, cases_Bool, cases_eq, cases_lt, cond-false, cond-true, eq-eqb}
-use Rattle.search_dump.proofs.Common.{false≢true, le-leb, leb-true, lt-ltb, ne_eqb, not-true, append-nil, append_assoc}
-use Rattle.search_dump.proofs.Common.{none-some, same_Some, slice_get_within, earlier, first, mark_of, next_mark}
-use Rattle.search_dump.proofs.Common.{next_shown, own_mark, own_place, rank_of, shared_mark, shared_marks, shown_mark}
-use Rattle.search_dump.proofs.Common.{Mark, names_of, numbers_of, Tag, Goes, goes_nowhere, goes_on, shown, Shown}
-use Rattle.search_dump.proofs.Common.{Content, Marks, element, if_listed, mark_elements, mark_seen, seen_by, stands_at}
-use Rattle.search_dump.proofs.Common.{Has, IsMarkBehind, IsMarkFrom, is_before, mark_element, own_place_in, passed}
-use Rattle.search_dump.proofs.Common.{place_in, shared_place_in, usable_by}
+use Rattle.search_dump.proofs.Common.{outlook, Outlook, ◌≡◌, ◌≢◌, ℕ, zero, suc, inl, inr, ◌+◌, ◌-◌, ◌*◌, ◌<◌, ◌≤◌, ◌⊎◌}
+use Rattle.search_dump.proofs.Common.{◌&&◌, ◌==◌, max, min, Bool, true, false, cond, Option, None, Some, List, [], ◌∷◌}
+use Rattle.search_dump.proofs.Common.{◌++◌, length, refl, sym, ap, ap₂, subst, ◌∙◌, arith, MatchOption, codes, nat_le}
+use Rattle.search_dump.proofs.Common.{nat_lt, not, slice_get, filter, find, flat_map, fold, option_and_then, option_map}
+use Rattle.search_dump.proofs.Common.{and_parts, and_right, cases_Bool, cases_eq, cases_lt, cond-false, cond-true}
+use Rattle.search_dump.proofs.Common.{eq-eqb, false≢true, le-leb, leb-true, lt-ltb, ne_eqb, not-true, append-nil}
+use Rattle.search_dump.proofs.Common.{append_assoc, none-some, same_Some, slice_get_within, earlier, first, mark_of}
+use Rattle.search_dump.proofs.Common.{next_mark, next_shown, own_mark, own_place, rank_of, shared_mark, shared_marks}
+use Rattle.search_dump.proofs.Common.{shown_mark, names_of, numbers_of, Goes, goes_nowhere, goes_on, shown, Shown}
+use Rattle.search_dump.proofs.Common.{Marks, element, if_listed, mark_elements, mark_seen, seen_by, stands_at, Has}
+use Rattle.search_dump.proofs.Common.{IsMarkBehind, IsMarkFrom, is_before, mark_element, own_place_in, passed, place_in}
+use Rattle.search_dump.proofs.Common.{shared_place_in, usable_by}
 use Rattle.std.proofs.lemmas.Bool.Decides.{nat_tests}
 use Rattle.mark_table.specs.declared.order.MarkView.{MarkView}
 use Rattle.mark_table.specs.declared.order.Origin.{Origin}
@@ -227,22 +227,22 @@ rising-all view places rank [] = tt
 rising-all view places rank (number ∷ numbers) = rising-shared view rank (finite.get places number)
     (shared_marks view places (rank + 1) numbers) (rising-all view places (rank + 1) numbers)
 
-module _ (content : Content) (start end : ℕ) (marks : List Mark) (widget : ℕ) where
-  pub usable-rising : IsRising 0 (usable_by content start end marks widget)
+module _ (outlook : Outlook) where
+  pub usable-rising : IsRising 0 (usable_by outlook)
   usable-rising =
-      let view : MarkView = record { widget = record { 0 = widget }; start = start; end = end } in
-      rising-own view 0 (finite.get content.marks (2 * widget))
-      (own_mark view 1 (finite.get content.marks (2 * widget + 1))
-      ++ shared_marks view content.marks 2 (numbers_of marks))
-      (rising-own view 1 (finite.get content.marks (2 * widget + 1))
-      (shared_marks view content.marks 2 (numbers_of marks)) (rising-all view content.marks 2 (numbers_of marks)))
+      let view : MarkView = record { widget = record { 0 = outlook.widget }; start = outlook.part.start; end = outlook.part.end } in
+      rising-own view 0 (finite.get outlook.part.content.marks (2 * outlook.widget))
+      (own_mark view 1 (finite.get outlook.part.content.marks (2 * outlook.widget + 1))
+      ++ shared_marks view outlook.part.content.marks 2 (numbers_of outlook.marks))
+      (rising-own view 1 (finite.get outlook.part.content.marks (2 * outlook.widget + 1))
+      (shared_marks view outlook.part.content.marks 2 (numbers_of outlook.marks)) (rising-all view outlook.part.content.marks 2 (numbers_of outlook.marks)))
 
 -- where one of them is shown
-pub record IsPlaced (content : Content) (start end : ℕ) (marks : List Mark) (widget : ℕ) (shown : Shown) : Type 0 where
-  pub place : place_in content start end marks widget (mark_of shown.rank) ≡ Some (shown.place - start)
-  pub above : start ≤ shown.place
-  pub within : shown.place ≤ end
-  pub known : shown.rank < 2 + length (numbers_of marks)
+pub record IsPlaced (outlook : Outlook) (shown : Shown) : Type 0 where
+  pub place : place_in outlook (mark_of shown.rank) ≡ Some (shown.place - outlook.part.start)
+  pub above : outlook.part.start ≤ shown.place
+  pub within : shown.place ≤ outlook.part.end
+  pub known : shown.rank < 2 + length (numbers_of outlook.marks)
 
 has-append : (xs ys : List Shown) (mark : Shown) → Has (xs ++ ys) mark → Has xs mark ⊎ Has ys mark
 has-append [] ys mark has = inr has
@@ -357,40 +357,40 @@ all-has view places rank (number ∷ numbers) shown has =
           }
     ]
 
-pub usable-placed : (content : Content) (start end : ℕ) (marks : List Mark) (widget : ℕ) (shown : Shown) → start ≤ end →
-    Has (usable_by content start end marks widget) shown
-    → IsPlaced content start end marks widget shown
-usable-placed content start end marks widget shown ordered has =
-    let view : MarkView = record { widget = record { 0 = widget }; start = start; end = end } in
-    let numbers = numbers_of marks in
-    elim (has-append (own_mark view 0 (finite.get content.marks (2 * widget)))
-    (own_mark view 1 (finite.get content.marks (2 * widget + 1)) ++ shared_marks view content.marks 2 numbers) shown
+pub usable-placed : (outlook : Outlook) (shown : Shown) → outlook.part.start ≤ outlook.part.end →
+    Has (usable_by outlook) shown
+    → IsPlaced outlook shown
+usable-placed outlook shown ordered has =
+    let view : MarkView = record { widget = record { 0 = outlook.widget }; start = outlook.part.start; end = outlook.part.end } in
+    let numbers = numbers_of outlook.marks in
+    elim (has-append (own_mark view 0 (finite.get outlook.part.content.marks (2 * outlook.widget)))
+    (own_mark view 1 (finite.get outlook.part.content.marks (2 * outlook.widget + 1)) ++ shared_marks view outlook.part.content.marks 2 numbers) shown
     has) [
       | inl one ↦
-          let is = own-has view 0 (finite.get content.marks (2 * widget)) shown ordered one in
+          let is = own-has view 0 (finite.get outlook.part.content.marks (2 * outlook.widget)) shown ordered one in
           record {
-            place = ap (λ n. place_in content start end marks widget (mark_of n)) is.3 ∙ is.0;
+            place = ap (λ n. place_in outlook (mark_of n)) is.3 ∙ is.0;
             above = is.1;
             within = is.2;
             known = omega (arith, is.3);
           }
       | inr later ↦
-          elim (has-append (own_mark view 1 (finite.get content.marks (2 * widget + 1)))
-          (shared_marks view content.marks 2 numbers) shown later) [
+          elim (has-append (own_mark view 1 (finite.get outlook.part.content.marks (2 * outlook.widget + 1)))
+          (shared_marks view outlook.part.content.marks 2 numbers) shown later) [
             | inl two ↦
-                let is = own-has view 1 (finite.get content.marks (2 * widget + 1)) shown ordered two in
+                let is = own-has view 1 (finite.get outlook.part.content.marks (2 * outlook.widget + 1)) shown ordered two in
                 record {
-                  place = ap (λ n. place_in content start end marks widget (mark_of n)) is.3 ∙ is.0;
+                  place = ap (λ n. place_in outlook (mark_of n)) is.3 ∙ is.0;
                   above = is.1;
                   within = is.2;
                   known = omega (arith, is.3);
                 }
             | inr rest ↦
-                let is = all-has view content.marks 2 numbers shown rest in
+                let is = all-has view outlook.part.content.marks 2 numbers shown rest in
                 let two : 2 + is.at ≡ suc (suc is.at) = omega arith in
                 record {
-                  place = ap (λ n. place_in content start end marks widget (mark_of n)) (is.is ∙ two)
-                      ∙ ap (option_and_then (λ number. shared_place_in start (finite.get content.marks number)))
+                  place = ap (λ n. place_in outlook (mark_of n)) (is.is ∙ two)
+                      ∙ ap (option_and_then (λ number. shared_place_in outlook.part.start (finite.get outlook.part.content.marks number)))
                       is.there ∙ is.place;
                   above = is.above;
                   within = is.within;
@@ -538,52 +538,52 @@ rank-mark zero = refl
 rank-mark (suc zero) = refl
 rank-mark (suc (suc rank)) = omega arith
 
-pub record IsMarkOf (content : Content) (start end : ℕ) (marks : List Mark) (widget : ℕ) (origin : Origin)
+pub record IsMarkOf (outlook : Outlook) (origin : Origin)
     (mark : WidgetMark) : Type 0 where
   pub shown : Shown
-  pub is : next_shown origin (usable_by content start end marks widget) ≡ Some shown
-  pub place : place_in content start end marks widget mark ≡ Some (shown.place - start)
-  pub above : start ≤ shown.place
+  pub is : next_shown origin (usable_by outlook) ≡ Some shown
+  pub place : place_in outlook mark ≡ Some (shown.place - outlook.part.start)
+  pub above : outlook.part.start ≤ shown.place
   pub rank : rank_of mark ≡ shown.rank
 
-mark-given : (content : Content) (start end : ℕ) (marks : List Mark) (widget : ℕ) (origin : Origin) (mark : WidgetMark)
-    (found : Option Shown) → start ≤ end
-    → next_shown origin (usable_by content start end marks widget) ≡ found →
+mark-given : (outlook : Outlook) (origin : Origin) (mark : WidgetMark)
+    (found : Option Shown) → outlook.part.start ≤ outlook.part.end
+    → next_shown origin (usable_by outlook) ≡ found →
     Some mark ≡ option_map (λ (shown : Shown). mark_of shown.rank) found →
-    IsMarkOf content start end marks widget origin mark
-mark-given content start end marks widget origin mark None ordered next is = absurd (none-some mark (sym is))
-mark-given content start end marks widget origin mark (Some shown) ordered next is =
+    IsMarkOf outlook origin mark
+mark-given outlook origin mark None ordered next is = absurd (none-some mark (sym is))
+mark-given outlook origin mark (Some shown) ordered next is =
     let same : mark ≡ mark_of shown.rank = same_Some mark (mark_of shown.rank) is in
-    let placed = usable-placed content start end marks widget shown ordered
-    (next-has origin (usable_by content start end marks widget) shown next) in
+    let placed = usable-placed outlook shown ordered
+    (next-has origin (usable_by outlook) shown next) in
     record {
       shown = shown;
       is = next;
-      place = ap (place_in content start end marks widget) same ∙ placed.place;
+      place = ap (place_in outlook) same ∙ placed.place;
       above = placed.above;
       rank = ap rank_of same ∙ rank-mark shown.rank;
     }
 
-pub mark-of : (content : Content) (start end : ℕ) (marks : List Mark) (widget : ℕ) (origin : Origin) (mark : WidgetMark)
-    → start ≤ end
-    → Some mark ≡ next_mark origin (usable_by content start end marks widget) →
-    IsMarkOf content start end marks widget origin mark
-mark-of content start end marks widget origin mark ordered is =
-    mark-given content start end marks widget origin mark (next_shown origin (usable_by content start end marks widget))
+pub mark-of : (outlook : Outlook) (origin : Origin) (mark : WidgetMark)
+    → outlook.part.start ≤ outlook.part.end
+    → Some mark ≡ next_mark origin (usable_by outlook) →
+    IsMarkOf outlook origin mark
+mark-of outlook origin mark ordered is =
+    mark-given outlook origin mark (next_shown origin (usable_by outlook))
     ordered refl is
 
-pub mark-is : (content : Content) (start end : ℕ) (marks : List Mark) (widget : ℕ) (origin : Origin) (mark : WidgetMark)
-    (place : ℕ) (of : IsMarkOf content start end marks widget origin mark)
-    → Some place ≡ place_in content start end marks widget mark →
-    Some (record { place = start + place; rank = rank_of mark })
-    ≡ next_shown origin (usable_by content start end marks widget)
-mark-is content start end marks widget origin mark place of is =
-    let at : start + place ≡ of.shown.place = omega (
+pub mark-is : (outlook : Outlook) (origin : Origin) (mark : WidgetMark)
+    (place : ℕ) (of : IsMarkOf outlook origin mark)
+    → Some place ≡ place_in outlook mark →
+    Some (record { place = outlook.part.start + place; rank = rank_of mark })
+    ≡ next_shown origin (usable_by outlook)
+mark-is outlook origin mark place of is =
+    let at : outlook.part.start + place ≡ of.shown.place = omega (
       arith,
-      same_Some place (of.shown.place - start) (is ∙ of.place),
+      same_Some place (of.shown.place - outlook.part.start) (is ∙ of.place),
       of.above,
     ) in
-    let same : ◌≡◌ {A = Shown} (record { place = start + place; rank = rank_of mark }) of.shown = λ i.
+    let same : ◌≡◌ {A = Shown} (record { place = outlook.part.start + place; rank = rank_of mark }) of.shown = λ i.
     record { place = at i; rank = of.rank i } in
     ap Some same ∙ sym of.is
 
@@ -677,26 +677,26 @@ left-fewer marks mark (Some next) has behind =
     (ap not (not-itself mark)) (ap not behind.1)).1 has
 
 -- all the marks at a place
-marks-are : (content : Content) (start end : ℕ) (tags : List Tag) (marks : List Mark) (widget place : ℕ) →
-    start ≤ end
-    → passed (start + place) (mark_element (shown content start end) (names_of marks) place) None
-    (usable_by content start end marks widget) ≡ mark_elements (seen_by content start end tags marks widget) place
-marks-are content start end tags marks widget place ordered =
-    let all = usable_by content start end marks widget in
-    let each = mark_element (shown content start end) (names_of marks) place in
-    flat-agree (λ mark. if_listed (mark.place == start + place && is_before None mark) (each mark)) (λ (mark : Shown).
-    if_listed (mark.place - start == place) (each mark)) all
+marks-are : (outlook : Outlook) (place : ℕ) →
+    outlook.part.start ≤ outlook.part.end
+    → passed (outlook.part.start + place) (mark_element (shown outlook.part) (names_of outlook.marks) place) None
+    (usable_by outlook) ≡ mark_elements (seen_by outlook) place
+marks-are outlook place ordered =
+    let all = usable_by outlook in
+    let each = mark_element (shown outlook.part) (names_of outlook.marks) place in
+    flat-agree (λ mark. if_listed (mark.place == outlook.part.start + place && is_before None mark) (each mark)) (λ (mark : Shown).
+    if_listed (mark.place - outlook.part.start == place) (each mark)) all
     (λ mark has.
-    let above = (usable-placed content start end marks widget mark ordered has).above in
-    elim (cases_eq mark.place (start + place)) [
-      | inl same ↦ ap (λ b. if_listed (b && true) (each mark)) (eq-eqb mark.place (start + place) same)
-          ∙ sym (ap (λ b. if_listed b (each mark)) (eq-eqb (mark.place - start) place (omega arith)))
+    let above = (usable-placed outlook mark ordered has).above in
+    elim (cases_eq mark.place (outlook.part.start + place)) [
+      | inl same ↦ ap (λ b. if_listed (b && true) (each mark)) (eq-eqb mark.place (outlook.part.start + place) same)
+          ∙ sym (ap (λ b. if_listed b (each mark)) (eq-eqb (mark.place - outlook.part.start) place (omega arith)))
       | inr other ↦
-          ap (λ b. if_listed (b && true) (each mark)) (ne_eqb mark.place (start + place) other)
-          ∙ sym (ap (λ b. if_listed b (each mark)) (ne_eqb (mark.place - start) place (λ same. other (omega arith))))
+          ap (λ b. if_listed (b && true) (each mark)) (ne_eqb mark.place (outlook.part.start + place) other)
+          ∙ sym (ap (λ b. if_listed b (each mark)) (ne_eqb (mark.place - outlook.part.start) place (λ same. other (omega arith))))
     ])
-    ∙ sym (flat-filter (λ mark. element (codes "mark") (shown content start end) place mark.name) (stands_at place)
-    (mark_seen marks start) (λ (mark : Shown). if_listed (mark.place - start == place) (each mark))
+    ∙ sym (flat-filter (λ mark. element (codes "mark") (shown outlook.part) place mark.name) (stands_at place)
+    (mark_seen outlook.marks outlook.part.start) (λ (mark : Shown). if_listed (mark.place - outlook.part.start == place) (each mark))
     (record { place = 0; rank = 0 }) all (λ at within. refl))
 
 listed-on : (listed : Bool) (old between new : List ℕ) (some more all : List (List ℕ)) → all ≡ some ++ more →
@@ -711,69 +711,69 @@ listed-none-yet : (listed : Bool) (old : List ℕ) (some : List (List ℕ)) → 
 listed-none-yet true old some is = subst (Goes old old) (sym is) (goes_nowhere old)
 listed-none-yet false old some is = goes_nowhere old
 
-goes-all : (content : Content) (start end : ℕ) (tags : List Tag) (marks : List Mark) (widget place : ℕ)
-    (listed : Bool) (old now : List ℕ) (next : Option Shown) → start ≤ end
-    → MatchOption next (Unit {0}) (λ m. start + place < m.place)
+goes-all : (outlook : Outlook) (place : ℕ)
+    (listed : Bool) (old now : List ℕ) (next : Option Shown) → outlook.part.start ≤ outlook.part.end
+    → MatchOption next (Unit {0}) (λ m. outlook.part.start + place < m.place)
     →
-    Goes old now (if_listed listed (passed (start + place)
-    (mark_element (shown content start end) (names_of marks) place) next
-    (usable_by content start end marks widget)))
-    → Goes old now (if_listed listed (mark_elements (seen_by content start end tags marks widget) place))
-goes-all content start end tags marks widget place listed old now next ordered above goes =
+    Goes old now (if_listed listed (passed (outlook.part.start + place)
+    (mark_element (shown outlook.part) (names_of outlook.marks) place) next
+    (usable_by outlook)))
+    → Goes old now (if_listed listed (mark_elements (seen_by outlook) place))
+goes-all outlook place listed old now next ordered above goes =
     subst (λ xs. Goes old now (if_listed listed xs))
-    (passed-all (usable_by content start end marks widget) (start + place)
-    (mark_element (shown content start end) (names_of marks) place) next above
-    ∙ marks-are content start end tags marks widget place ordered) goes
+    (passed-all (usable_by outlook) (outlook.part.start + place)
+    (mark_element (shown outlook.part) (names_of outlook.marks) place) next above
+    ∙ marks-are outlook place ordered) goes
 
 -- what is listed of the marks at a place is what stands before the next one
-pub record AreListed (content : Content) (start end : ℕ) (marks : List Mark) (widget place : ℕ) (listed : Bool)
+pub record AreListed (outlook : Outlook) (place : ℕ) (listed : Bool)
     (old now : List ℕ) (next : Option Shown) : Type 0 where
-  pub goes : Goes old now (if_listed listed (passed (start + place)
-      (mark_element (shown content start end) (names_of marks) place) next
-      (usable_by content start end marks widget)))
-  pub on : IsMarkOn (usable_by content start end marks widget) (start + place) next
+  pub goes : Goes old now (if_listed listed (passed (outlook.part.start + place)
+      (mark_element (shown outlook.part) (names_of outlook.marks) place) next
+      (usable_by outlook)))
+  pub on : IsMarkOn (usable_by outlook) (outlook.part.start + place) next
 
-pub marks-begun : {content : Content} {start end : ℕ} {marks : List Mark} {widget place : ℕ} {listed : Bool}
-    {old : List ℕ} {next : Option Shown} → IsMarkFrom (usable_by content start end marks widget) (start + place) next →
-    AreListed content start end marks widget place listed old old next
-marks-begun {content} {start} {end} {marks} {widget} {place} {listed} {old} {next} from =
-    let all = usable_by content start end marks widget in
-    let each = mark_element (shown content start end) (names_of marks) place in
+pub marks-begun : {outlook : Outlook} {place : ℕ} {listed : Bool}
+    {old : List ℕ} {next : Option Shown} → IsMarkFrom (usable_by outlook) (outlook.part.start + place) next →
+    AreListed outlook place listed old old next
+marks-begun {outlook} {place} {listed} {old} {next} from =
+    let all = usable_by outlook in
+    let each = mark_element (shown outlook.part) (names_of outlook.marks) place in
     record {
-      goes = listed-none-yet listed old (passed (start + place) each next all)
-          (passed-none all (start + place) each next from);
-      on = on-begun all (start + place) next from;
+      goes = listed-none-yet listed old (passed (outlook.part.start + place) each next all)
+          (passed-none all (outlook.part.start + place) each next from);
+      on = on-begun all (outlook.part.start + place) next from;
     }
 
-module _ {content : Content} {start end : ℕ} {marks : List Mark} {widget place : ℕ} {listed : Bool} {old now : List ℕ}
-    {before : Option Shown} (are : AreListed content start end marks widget place listed old now before) where
+module _ {outlook : Outlook} {place : ℕ} {listed : Bool} {old now : List ℕ}
+    {before : Option Shown} (are : AreListed outlook place listed old now before) where
   pub marks-on : {new : List ℕ} {mark : Shown} {next : Option Shown} → before ≡ Some mark →
-      mark.place ≡ start + place → IsMarkBehind (usable_by content start end marks widget) mark next
-      → Goes now new (if_listed listed (mark_element (shown content start end) (names_of marks) place mark)) →
-      AreListed content start end marks widget place listed old new next
+      mark.place ≡ outlook.part.start + place → IsMarkBehind (usable_by outlook) mark next
+      → Goes now new (if_listed listed (mark_element (shown outlook.part) (names_of outlook.marks) place mark)) →
+      AreListed outlook place listed old new next
   marks-on {new} {mark} {next} is here behind pushed =
-      let all = usable_by content start end marks widget in
-      let each = mark_element (shown content start end) (names_of marks) place in
-      let at = start + place in
-      let still = subst (AreListed content start end marks widget place listed old now) is are in
+      let all = usable_by outlook in
+      let each = mark_element (shown outlook.part) (names_of outlook.marks) place in
+      let at = outlook.part.start + place in
+      let still = subst (AreListed outlook place listed old now) is are in
       record {
         goes = listed-on listed old now new (passed at each (Some mark) all) (each mark) (passed at each next all)
-            (passed-on all at each mark next (usable-rising content start end marks widget) still.on.0 here behind)
+            (passed-on all at each mark next (usable-rising outlook) still.on.0 here behind)
             still.goes pushed;
         on = on-step all at mark next here behind;
       }
 
   pub marks-fewer : {mark : Shown} (next : Option Shown) → before ≡ Some mark →
-      IsMarkBehind (usable_by content start end marks widget) mark next
-      → marks_left (usable_by content start end marks widget) next
-      < marks_left (usable_by content start end marks widget) before
+      IsMarkBehind (usable_by outlook) mark next
+      → marks_left (usable_by outlook) next
+      < marks_left (usable_by outlook) before
   marks-fewer {mark} next is behind =
-      let all = usable_by content start end marks widget in
+      let all = usable_by outlook in
       subst (λ o. marks_left all next < marks_left all o) (sym is)
-      (left-fewer all mark next (subst (IsMarkOn all (start + place)) is are.on).0 behind)
+      (left-fewer all mark next (subst (IsMarkOn all (outlook.part.start + place)) is are.on).0 behind)
 
-  pub marks-done : (tags : List Tag) → start ≤ end → MatchOption before (Unit {0}) (λ m. m.place ≢ start + place) →
-      Goes old now (if_listed listed (mark_elements (seen_by content start end tags marks widget) place))
-  marks-done tags ordered apart =
-      goes-all content start end tags marks widget place listed old now before ordered
-      (on-above (usable_by content start end marks widget) (start + place) before are.on apart) are.goes
+  pub marks-done : outlook.part.start ≤ outlook.part.end → MatchOption before (Unit {0}) (λ m. m.place ≢ outlook.part.start + place) →
+      Goes old now (if_listed listed (mark_elements (seen_by outlook) place))
+  marks-done ordered apart =
+      goes-all outlook place listed old now before ordered
+      (on-above (usable_by outlook) (outlook.part.start + place) before are.on apart) are.goes

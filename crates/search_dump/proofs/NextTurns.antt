@@ -1,10 +1,10 @@
 -- The next turn, found row by row, and what it says of the tags there.
-use Rattle.search_dump.proofs.Common.{◌≡◌, ℕ, inl, inr, ◌+◌, ◌<◌, ◌≤◌, min, List, ap, subst, sym, ◌∙◌, arith, cases_eq}
-use Rattle.search_dump.proofs.Common.{cases_lt, ◌-◌, ◌==◌, if◌then◌else◌, false, true, length, eq-eqb, next_change}
-use Rattle.search_dump.proofs.Common.{shown_flags, slot_of_row, slice_index_or, slots_of, has_tag_at, rows_at, seen_by}
-use Rattle.search_dump.proofs.Common.{AreAhead, AreBehind, AreKnownTo, AreQuiet, Content, IsApart, IsNearest}
-use Rattle.search_dump.proofs.Common.{IsNextStop, IsTurnBehind, IsView, Mark, Rows, Tag, Turn}
-use Rattle.search_dump.proofs.ChangeLaws.{ahead-on, flag-same, flag-upto, length-flags, nearest-more, next-above}
+use Rattle.search_dump.proofs.Common.{length-shown_flags, outlook, Outlook, slot_at, ◌≡◌, ℕ, inl, inr, ◌+◌, ◌<◌, ◌≤◌}
+use Rattle.search_dump.proofs.Common.{min, List, ap, subst, sym, ◌∙◌, arith, cases_eq, cases_lt, ◌-◌, ◌==◌}
+use Rattle.search_dump.proofs.Common.{if◌then◌else◌, false, true, length, eq-eqb, next_change, shown_flags}
+use Rattle.search_dump.proofs.Common.{slice_index_or, has_tag_at, rows_at, seen_by, AreAhead, AreBehind, AreKnownTo}
+use Rattle.search_dump.proofs.Common.{AreQuiet, IsApart, IsNearest, IsNextStop, IsTurnBehind, IsView, Rows, Turn}
+use Rattle.search_dump.proofs.ChangeLaws.{ahead-on, flag-same, flag-upto, nearest-more, next-above}
 use Rattle.search_dump.proofs.TagStops.{tag-stop}
 
 -- no row has been looked at
@@ -107,15 +107,15 @@ rows-end turn place count within =
       | false ↦ omega arith
     ]
 
-module _ {content : Content} {start end : ℕ} {tags : List Tag} {widget place to : ℕ} {next : List ℕ} {turn : Turn}
-    (known : IsTurnBehind content start end tags widget place to next turn) where
-  pub turn-ahead : (later : ℕ) → place ≤ later → AreAhead content start end tags widget later next
+module _ {outlook : Outlook} {place to : ℕ} {next : List ℕ} {turn : Turn}
+    (known : IsTurnBehind outlook place to next turn) where
+  pub turn-ahead : (later : ℕ) → place ≤ later → AreAhead outlook later next
   turn-ahead later from =
-      ahead-on content start end tags widget place later next
+      ahead-on outlook place later next
       (record { rows = known.rows; each = λ at within above. known.known at within }) from
 
   pub turn-later : (later : ℕ) → place ≤ later → later < turn.place →
-      IsTurnBehind content start end tags widget later to next turn
+      IsTurnBehind outlook later to next turn
   turn-later later from before =
       record {
         rows = known.rows;
@@ -125,7 +125,7 @@ module _ {content : Content} {start end : ℕ} {tags : List Tag} {widget place t
       }
 
   -- what is kept of the rows that don't turn at a place up to it stands behind that place
-  pub rows-behind : (stop : ℕ) → stop ≤ turn.place → AreBehind (rows_at turn stop) next (length tags) stop
+  pub rows-behind : (stop : ℕ) → stop ≤ turn.place → AreBehind (rows_at turn stop) next (length outlook.tags) stop
   rows-behind stop upto at within outside =
       elim (cases_eq turn.place stop) [
         | inl same ↦
@@ -136,26 +136,25 @@ module _ {content : Content} {start end : ℕ} {tags : List Tag} {widget place t
       ]
 
   pub turn-quiet : (stop : ℕ) → place < stop → stop ≤ turn.place →
-      AreQuiet content start end tags widget (rows_at turn stop) stop
+      AreQuiet outlook (rows_at turn stop) stop
   turn-quiet stop above upto at within outside =
-      let flags = shown_flags (slot_of_row widget (slots_of tags) at) content start end in
+      let flags = shown_flags (slot_at outlook at) outlook.part in
       let behind : stop < next_change flags place =
       omega (arith, known.known at within, rows-behind stop upto at within outside) in
       flag-upto flags place stop above (omega (arith, behind))
       ∙ sym (flag-same flags place stop (omega (arith, above)) behind)
 
-  pub turn-known : (stop : ℕ) → stop ≤ turn.place → AreKnownTo content start end tags widget place stop next
+  pub turn-known : (stop : ℕ) → stop ≤ turn.place → AreKnownTo outlook place stop next
   turn-known stop upto =
       record {
         rows = known.rows;
         each = λ at within. (known.known at within, omega (arith, upto, known.nearest.each at within));
       }
 
-  pub turn-stop : (marks : List Mark) → IsView content start end → place < to → to ≤ end - start →
-      IsNextStop (has_tag_at (seen_by content start end tags marks widget)) place to turn.place
-  turn-stop marks view some within =
-      let long = length-flags content start end view in
-      (tag-stop content start end tags marks widget place to turn.place next some within (λ slot is. long slot)
+  pub turn-stop : IsView outlook.part → place < to → to ≤ outlook.part.end - outlook.part.start →
+      IsNextStop (has_tag_at (seen_by outlook)) place to turn.place
+  turn-stop view some within =
+      (tag-stop outlook place to turn.place next some within (λ slot is. length-shown_flags outlook.part slot view)
       known.known
-      (λ at inside. next-above (shown_flags (slot_of_row widget (slots_of tags) at) content start end) place
-      (omega (arith, some, within, long (slot_of_row widget (slots_of tags) at)))) known.nearest).1
+      (λ at inside. next-above (shown_flags (slot_at outlook at) outlook.part) place
+      (omega (arith, some, within, length-shown_flags outlook.part (slot_at outlook at) view))) known.nearest).1

@@ -1,18 +1,17 @@
 -- The next stop of a dump, and what is listed up to it.
-use Rattle.search_dump.proofs.Common.{◌≡◌, ℕ, zero, suc, inl, inr, ◌+◌, ◌-◌, ◌<◌, ◌≤◌, ◌⊎◌, ◌||◌, ◌==◌, Bool, true}
-use Rattle.search_dump.proofs.Common.{false, Option, None, Some, List, [], ◌∷◌, ◌++◌, length, take, drop, refl, sym, ap}
-use Rattle.search_dump.proofs.Common.{ap₂, subst, ◌∙◌, arith, MatchOption, codes, not, slice_range, filter, flat_map}
-use Rattle.search_dump.proofs.Common.{list_any, prefix_len, range_with_len, option_map, and_left, cases_eq, cases_lt}
-use Rattle.search_dump.proofs.Common.{cond-false, cond-true, eq-eqb, false≢true, ne_eqb, or_left, or_parts, or_right}
-use Rattle.search_dump.proofs.Common.{Mark, Shown, Tag, Goes, goes_nowhere, goes_on, flat_map-append, get_or_past}
-use Rattle.search_dump.proofs.Common.{flag_at, Content, length-shown, column_of, IsView, shown, shown_flags, Seen}
-use Rattle.search_dump.proofs.Common.{begins_at, element, elements_at, ends_at, flag_before, if_listed, is_cut}
-use Rattle.search_dump.proofs.Common.{mark_elements, mark_seen, own_slot, piece, seen_by, stands_at, tag_seen}
-use Rattle.search_dump.proofs.Common.{tagoff_elements, tagon_elements, text_elements, Has, IsMarkFrom, shown_of}
-use Rattle.search_dump.proofs.Common.{usable_by, places, FailsBetween, IsNextStop, IsStop, has_mark_at, has_tag_at}
-use Rattle.search_dump.proofs.Common.{stop_at_mark, stops_at_marks, stops_at_tags, tag_stops, Listed, append_assoc}
-use Rattle.search_dump.proofs.Common.{append-nil}
-use Rattle.search_dump.proofs.ChangeLaws.{length-flags}
+use Rattle.search_dump.proofs.Common.{length-shown_flags, outlook, Outlook, ◌≡◌, ℕ, zero, suc, inl, inr, ◌+◌, ◌-◌, ◌<◌}
+use Rattle.search_dump.proofs.Common.{◌≤◌, ◌⊎◌, ◌||◌, ◌==◌, Bool, true, false, Option, None, Some, List, [], ◌∷◌, ◌++◌}
+use Rattle.search_dump.proofs.Common.{length, take, drop, refl, sym, ap, ap₂, subst, ◌∙◌, arith, MatchOption, codes}
+use Rattle.search_dump.proofs.Common.{not, slice_range, filter, flat_map, list_any, prefix_len, range_with_len}
+use Rattle.search_dump.proofs.Common.{option_map, and_left, cases_eq, cases_lt, cond-false, cond-true, eq-eqb}
+use Rattle.search_dump.proofs.Common.{false≢true, ne_eqb, or_left, or_parts, or_right, Shown, Goes, goes_nowhere}
+use Rattle.search_dump.proofs.Common.{goes_on, flat_map-append, get_or_past, flag_at, length-shown, column_of, IsView}
+use Rattle.search_dump.proofs.Common.{shown, shown_flags, Seen, begins_at, element, elements_at, ends_at, flag_before}
+use Rattle.search_dump.proofs.Common.{if_listed, is_cut, mark_elements, mark_seen, own_slot, piece, seen_by, stands_at}
+use Rattle.search_dump.proofs.Common.{tag_seen, tagoff_elements, tagon_elements, text_elements, Has, IsMarkFrom}
+use Rattle.search_dump.proofs.Common.{shown_of, usable_by, places, FailsBetween, IsNextStop, IsStop, has_mark_at}
+use Rattle.search_dump.proofs.Common.{has_tag_at, stop_at_mark, stops_at_marks, stops_at_tags, tag_stops, Listed}
+use Rattle.search_dump.proofs.Common.{append_assoc, append-nil}
 use Rattle.search_dump.proofs.DumpLaws.{begins-is}
 use Rattle.search_dump.specs.declared.dumped_marks.Marked.{Marked}
 use Rattle.search_dump.proofs.MarkOrderLaws.{earlier-place, usable-placed}
@@ -42,31 +41,31 @@ mark-on marks place later None from on within = λ mark has. omega (arith, from 
 mark-on marks place later (Some first) from on within =
     (from.0, within, λ mark has above. from.2 mark has (omega arith))
 
-stands-same : (content : Content) (start end : ℕ) (tags : List Tag) (marks : List Mark) (widget k : ℕ)
-    → has_mark_at (seen_by content start end tags marks widget) k
-    ≡ list_any (λ (mark : Shown). mark.place - start == k) (usable_by content start end marks widget)
-stands-same content start end tags marks widget k =
-    any-map (stands_at k) (mark_seen marks start) (usable_by content start end marks widget)
+stands-same : (outlook : Outlook) (k : ℕ)
+    → has_mark_at (seen_by outlook) k
+    ≡ list_any (λ (mark : Shown). mark.place - outlook.part.start == k) (usable_by outlook)
+stands-same outlook k =
+    any-map (stands_at k) (mark_seen outlook.marks outlook.part.start) (usable_by outlook)
 
-no-mark : (content : Content) (start end : ℕ) (tags : List Tag) (marks : List Mark) (widget place k : ℕ)
-    (mark : Option Marked) → start ≤ end
-    → IsMarkFrom (usable_by content start end marks widget) (start + place + 1) (option_map (shown_of start) mark) →
+no-mark : (outlook : Outlook) (place k : ℕ)
+    (mark : Option Marked) → outlook.part.start ≤ outlook.part.end
+    → IsMarkFrom (usable_by outlook) (outlook.part.start + place + 1) (option_map (shown_of outlook.part.start) mark) →
     place < k → MatchOption mark (Unit {0}) (λ m. k < m.place)
-    → has_mark_at (seen_by content start end tags marks widget) k ≡ false
-no-mark content start end tags marks widget place k None ordered from above within =
-    stands-same content start end tags marks widget k
-    ∙ any-none (λ (mark : Shown). mark.place - start == k) (usable_by content start end marks widget) (λ y has.
-    ne_eqb (y.place - start) k (λ same. omega (
+    → has_mark_at (seen_by outlook) k ≡ false
+no-mark outlook place k None ordered from above within =
+    stands-same outlook k
+    ∙ any-none (λ (mark : Shown). mark.place - outlook.part.start == k) (usable_by outlook) (λ y has.
+    ne_eqb (y.place - outlook.part.start) k (λ same. omega (
       arith,
       from y has,
-      (usable-placed content start end marks widget y ordered has).above,
+      (usable-placed outlook y ordered has).above,
     )))
-no-mark content start end tags marks widget place k (Some mark) ordered from above within =
-    stands-same content start end tags marks widget k
-    ∙ any-none (λ (other : Shown). other.place - start == k) (usable_by content start end marks widget) (λ y has.
-    ne_eqb (y.place - start) k (λ same.
-    let low = (usable-placed content start end marks widget y ordered has).above in
-    false≢true (sym (from.2 y has (omega arith)) ∙ earlier-place y (shown_of start mark) (omega arith))))
+no-mark outlook place k (Some mark) ordered from above within =
+    stands-same outlook k
+    ∙ any-none (λ (other : Shown). other.place - outlook.part.start == k) (usable_by outlook) (λ y has.
+    ne_eqb (y.place - outlook.part.start) k (λ same.
+    let low = (usable-placed outlook y ordered has).above in
+    false≢true (sym (from.2 y has (omega arith)) ∙ earlier-place y (shown_of outlook.part.start mark) (omega arith))))
 
 -- where a mark stops it
 stop-bounds : (tag stop : ℕ) (mark : Option Marked) → stop ≡ stop_at_mark tag mark →
@@ -74,18 +73,18 @@ stop-bounds : (tag stop : ℕ) (mark : Option Marked) → stop ≡ stop_at_mark 
 stop-bounds tag stop None is = (omega arith, tt)
 stop-bounds tag stop (Some mark) is = (omega arith, omega arith)
 
-stop-reached : (content : Content) (start end : ℕ) (tags : List Tag) (marks : List Mark) (widget place tag stop : ℕ)
+stop-reached : (outlook : Outlook) (place tag stop : ℕ)
     (mark : Option Marked)
-    → IsMarkFrom (usable_by content start end marks widget) (start + place + 1) (option_map (shown_of start) mark) →
+    → IsMarkFrom (usable_by outlook) (outlook.part.start + place + 1) (option_map (shown_of outlook.part.start) mark) →
     stop ≡ stop_at_mark tag mark
-    → (stop ≡ tag) ⊎ (has_mark_at (seen_by content start end tags marks widget) stop ≡ true)
-stop-reached content start end tags marks widget place tag stop None from is = inl is
-stop-reached content start end tags marks widget place tag stop (Some mark) from is =
+    → (stop ≡ tag) ⊎ (has_mark_at (seen_by outlook) stop ≡ true)
+stop-reached outlook place tag stop None from is = inl is
+stop-reached outlook place tag stop (Some mark) from is =
     elim (cases_lt mark.place tag) [
       | inr more ↦ inl (omega arith)
-      | inl less ↦ inr (stands-same content start end tags marks widget stop
-          ∙ any-some (λ (other : Shown). other.place - start == stop) (usable_by content start end marks widget)
-          (shown_of start mark) from.0 (eq-eqb (start + mark.place - start) stop (omega arith)))
+      | inl less ↦ inr (stands-same outlook stop
+          ∙ any-some (λ (other : Shown). other.place - outlook.part.start == stop) (usable_by outlook)
+          (shown_of outlook.part.start mark) from.0 (eq-eqb (outlook.part.start + mark.place - outlook.part.start) stop (omega arith)))
     ]
 
 within-mark : (k stop : ℕ) (mark : Option Marked) → k < stop → MatchOption mark (Unit {0}) (λ m. stop ≤ m.place) →
@@ -99,54 +98,54 @@ shown-within : (start stop at_mark : ℕ) (mark : Option Marked) → stop ≤ at
 shown-within start stop at_mark None below within = tt
 shown-within start stop at_mark (Some mark) below within = omega arith
 
-module _ (content : Content) (start end : ℕ) (tags : List Tag) (marks : List Mark) (widget : ℕ) (listed : Listed)
-    (mark : Option Marked) (place to tag at_mark stop : ℕ) (ordered : start ≤ end)
+module _ (outlook : Outlook) (listed : Listed)
+    (mark : Option Marked) (place to tag at_mark stop : ℕ) (ordered : outlook.part.start ≤ outlook.part.end)
     (at_tag : stops_at_tags listed ≡ true →
-    IsNextStop (has_tag_at (seen_by content start end tags marks widget)) place to tag)
+    IsNextStop (has_tag_at (seen_by outlook)) place to tag)
     (from : stops_at_marks listed ≡ true →
-    IsMarkFrom (usable_by content start end marks widget) (start + place + 1) (option_map (shown_of start) mark))
+    IsMarkFrom (usable_by outlook) (outlook.part.start + place + 1) (option_map (shown_of outlook.part.start) mark))
     (is_mark : at_mark ≡ stop_at_mark tag mark)
-    (at_line : listed.text ≡ true → IsNextStop (λ k. column_of (shown content start end) k == 0) place at_mark stop)
+    (at_line : listed.text ≡ true → IsNextStop (λ k. column_of (shown outlook.part) k == 0) place at_mark stop)
     (above : place < stop) (below : stop ≤ at_mark) (tag_below : tag ≤ to) where
   bounds : (at_mark ≤ tag) × MatchOption mark (Unit {0}) (λ m. at_mark ≤ m.place)
   bounds = stop-bounds tag at_mark mark is_mark
 
   no-tags : stops_at_tags listed ≡ true →
-      FailsBetween (has_tag_at (seen_by content start end tags marks widget)) place stop
+      FailsBetween (has_tag_at (seen_by outlook)) place stop
   no-tags stops k low high = (at_tag stops).fails k low (omega (arith, bounds.0))
 
   no-marks : stops_at_marks listed ≡ true →
-      FailsBetween (has_mark_at (seen_by content start end tags marks widget)) place stop
+      FailsBetween (has_mark_at (seen_by outlook)) place stop
   no-marks stops k low high =
-      no-mark content start end tags marks widget place k mark ordered (from stops) low
+      no-mark outlook place k mark ordered (from stops) low
       (within-mark k at_mark mark (omega arith) bounds.1)
 
-  cut-from : (k : ℕ) → (column_of (shown content start end) k == 0) ≡ false →
-      has_mark_at (seen_by content start end tags marks widget) k ≡ false
-      → has_tag_at (seen_by content start end tags marks widget) k ≡ false →
-      is_cut (seen_by content start end tags marks widget) k ≡ false
+  cut-from : (k : ℕ) → (column_of (shown outlook.part) k == 0) ≡ false →
+      has_mark_at (seen_by outlook) k ≡ false
+      → has_tag_at (seen_by outlook) k ≡ false →
+      is_cut (seen_by outlook) k ≡ false
   cut-from k column marked tagged =
       ap₂ (λ a b. a || b) column (ap₂ (λ a b. a || b) marked tagged)
 
-  cut-at : (k : ℕ) → ((column_of (shown content start end) k == 0) ≡ true)
-      ⊎ ((has_mark_at (seen_by content start end tags marks widget) k ≡ true)
-      ⊎ (has_tag_at (seen_by content start end tags marks widget) k ≡ true))
-      → is_cut (seen_by content start end tags marks widget) k ≡ true
+  cut-at : (k : ℕ) → ((column_of (shown outlook.part) k == 0) ≡ true)
+      ⊎ ((has_mark_at (seen_by outlook) k ≡ true)
+      ⊎ (has_tag_at (seen_by outlook) k ≡ true))
+      → is_cut (seen_by outlook) k ≡ true
   cut-at k is =
-      let seen = seen_by content start end tags marks widget in
+      let seen = seen_by outlook in
       elim is [
-        | inl column ↦ or_left (column_of (shown content start end) k == 0) (has_mark_at seen k
+        | inl column ↦ or_left (column_of (shown outlook.part) k == 0) (has_mark_at seen k
             || has_tag_at seen k) column
-        | inr other ↦ or_right (column_of (shown content start end) k == 0) (has_mark_at seen k
+        | inr other ↦ or_right (column_of (shown outlook.part) k == 0) (has_mark_at seen k
             || has_tag_at seen k) (elim other [
               | inl marked ↦ or_left (has_mark_at seen k) (has_tag_at seen k) marked
               | inr tagged ↦ or_right (has_mark_at seen k) (has_tag_at seen k) tagged
             ])
       ]
 
-  pub stop-is : IsStop listed (seen_by content start end tags marks widget) place to stop
+  pub stop-is : IsStop listed (seen_by outlook) place to stop
   stop-is =
-      let seen = seen_by content start end tags marks widget in
+      let seen = seen_by outlook in
       record {
         above = above;
         below = omega (arith, bounds.0);
@@ -160,7 +159,7 @@ module _ (content : Content) (start end : ℕ) (tags : List Tag) (marks : List M
                   (no-tags stops-tags k low high);
               reached = elim (at_line is).reached [
                 | inr column ↦ inr (cut-at stop (inl column))
-                | inl same ↦ elim (stop-reached content start end tags marks widget place tag at_mark mark
+                | inl same ↦ elim (stop-reached outlook place tag at_mark mark
                     (from stops-marks) is_mark) [
                       | inr marked ↦ inr (cut-at stop (inr (inl (ap (has_mark_at seen) same ∙ marked))))
                       | inl also ↦ elim (at_tag stops-tags).reached [
@@ -173,10 +172,10 @@ module _ (content : Content) (start end : ℕ) (tags : List Tag) (marks : List M
       }
 
   pub mark-stays : stops_at_marks listed ≡ true →
-      IsMarkFrom (usable_by content start end marks widget) (start + stop) (option_map (shown_of start) mark)
-  mark-stays stops = mark-on (usable_by content start end marks widget) (start + place + 1) (start + stop)
-      (option_map (shown_of start) mark) (from stops) (omega arith)
-      (shown-within start stop at_mark mark below bounds.1)
+      IsMarkFrom (usable_by outlook) (outlook.part.start + stop) (option_map (shown_of outlook.part.start) mark)
+  mark-stays stops = mark-on (usable_by outlook) (outlook.part.start + place + 1) (outlook.part.start + stop)
+      (option_map (shown_of outlook.part.start) mark) (from stops) (omega arith)
+      (shown-within outlook.part.start stop at_mark mark below bounds.1)
 
 -- ---- what is listed
 
@@ -345,31 +344,30 @@ any-never test [] never = refl
 any-never test (x ∷ xs) never = ap (λ b. b || list_any test xs) (never x) ∙ any-never test xs never
 
 -- no tag begins there
-tagons-end : (content : Content) (start end : ℕ) (tags : List Tag) (marks : List Mark) (widget place : ℕ) →
-    IsView content start end → place ≡ length (shown content start end)
-    → tagon_elements (seen_by content start end tags marks widget) place ≡ []
-tagons-end content start end tags marks widget place view is =
-    let seen = seen_by content start end tags marks widget in
+tagons-end : (outlook : Outlook) (place : ℕ) →
+    IsView outlook.part → place ≡ length (shown outlook.part)
+    → tagon_elements (seen_by outlook) place ≡ []
+tagons-end outlook place view is =
+    let seen = seen_by outlook in
     ap (flat_map (λ tag. element (codes "tagon") seen.text place tag.name))
     (filter-nothing (begins_at place) seen.tags
-    (any-map (begins_at place) (tag_seen content start end widget) tags
-    ∙ any-never (λ tag. begins_at place (tag_seen content start end widget tag)) tags (λ tag.
-    let all = shown_flags (own_slot widget tag.slot) content start end in
-    let long = length-flags content start end view (own_slot widget tag.slot) in
+    (any-map (begins_at place) (tag_seen outlook) outlook.tags
+    ∙ any-never (λ tag. begins_at place (tag_seen outlook tag)) outlook.tags (λ tag.
+    let all = shown_flags (own_slot outlook.widget tag.slot) outlook.part in
+    let long = length-shown_flags outlook.part (own_slot outlook.widget tag.slot) view in
     begins-is all place ∙ and_left (flag_at all place) (not (flag_before all place))
-    (get_or_past all place false (omega (arith, long, length-shown content start end view))))))
+    (get_or_past all place false (omega (arith, long, length-shown outlook.part view))))))
 
-pub end-goes : (listed : Listed) (content : Content) (start end : ℕ) (tags : List Tag) (marks : List Mark)
-    (widget place : ℕ) (old between new : List ℕ) → IsView content start end → place ≡ length (shown content start end)
-    → Goes old between (tag_stops listed (seen_by content start end tags marks widget) place) →
-    Goes between new (if_listed listed.marks (mark_elements (seen_by content start end tags marks widget) place))
-    → Goes old new (if_listed listed.tags (tagoff_elements (seen_by content start end tags marks widget) place)
-    ++ if_listed listed.marks (mark_elements (seen_by content start end tags marks widget) place))
-end-goes listed content start end tags marks widget place old between new view is first second =
-    let seen = seen_by content start end tags marks widget in
+pub end-goes : (listed : Listed) (outlook : Outlook) (place : ℕ) (old between new : List ℕ) → IsView outlook.part → place ≡ length (shown outlook.part)
+    → Goes old between (tag_stops listed (seen_by outlook) place) →
+    Goes between new (if_listed listed.marks (mark_elements (seen_by outlook) place))
+    → Goes old new (if_listed listed.tags (tagoff_elements (seen_by outlook) place)
+    ++ if_listed listed.marks (mark_elements (seen_by outlook) place))
+end-goes listed outlook place old between new view is first second =
+    let seen = seen_by outlook in
     let off = if_listed listed.tags (tagoff_elements seen place) in
     let none : off ++ if_listed listed.tags (tagon_elements seen place) ≡ off =
     ap (λ xs. off ++ xs) (if-none listed.tags (tagon_elements seen place) (λ _.
-    tagons-end content start end tags marks widget place view is)) ∙ append-nil off in
+    tagons-end outlook place view is)) ∙ append-nil off in
     goes_on old between new off (if_listed listed.marks (mark_elements seen place))
     (subst (Goes old between) none first) second

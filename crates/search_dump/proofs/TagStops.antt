@@ -1,16 +1,15 @@
 -- Where a dump stops at tags.
-use Rattle.search_dump.proofs.Common.{◌≡◌, ℕ, zero, suc, inl, inr, ◌-◌, ◌<◌, ◌≤◌, ◌||◌, Bool, true, false, List, []}
-use Rattle.search_dump.proofs.Common.{◌∷◌, length, map, get_or, refl, sym, ap, ◌∙◌, arith, list_any, cases_Bool}
-use Rattle.search_dump.proofs.Common.{cases_lt, or_left, or_right, true≢false, get_or-map, Mark, Tag, slots_of}
-use Rattle.search_dump.proofs.Common.{next_change, Content, Slots, shown_flags, AreAt, AreBefore, IsKnown, IsNearest}
-use Rattle.search_dump.proofs.Common.{slot_of_row, begins_at, ends_at, own_slot, seen_by, tag_seen, FailsBetween}
-use Rattle.search_dump.proofs.Common.{IsNextStop, has_tag_at}
+use Rattle.search_dump.proofs.Common.{outlook, Outlook, slot_at, ◌≡◌, ℕ, zero, suc, inl, inr, ◌-◌, ◌<◌, ◌≤◌, ◌||◌, Bool}
+use Rattle.search_dump.proofs.Common.{true, false, List, [], ◌∷◌, length, map, get_or, refl, sym, ap, ◌∙◌, arith}
+use Rattle.search_dump.proofs.Common.{list_any, cases_Bool, cases_lt, or_left, or_right, true≢false, get_or-map, Tag}
+use Rattle.search_dump.proofs.Common.{next_change, Slots, shown_flags, AreAt, AreBefore, IsKnown, IsNearest, begins_at}
+use Rattle.search_dump.proofs.Common.{ends_at, own_slot, seen_by, tag_seen, FailsBetween, IsNextStop, has_tag_at}
 use Rattle.search_dump.proofs.ChangeLaws.{quiet-between, quiet-upto, turns, turns-there}
 use Rattle.search_dump.proofs.DumpLaws.{no_tag, slot-there}
 
 -- whether one of some tags turns at a place
-abbrev tag_turns : Content → ℕ → ℕ → ℕ → ℕ → Tag → Bool
-tag_turns content start end widget place tag = turns (shown_flags (own_slot widget tag.slot) content start end) place
+abbrev tag_turns : Outlook → ℕ → Tag → Bool
+tag_turns outlook place tag = turns (shown_flags (own_slot outlook.widget tag.slot) outlook.part) place
 
 pub any-map : {A B : Type 0} (test : B → Bool) (f : A → B) (xs : List A) →
     list_any test (map f xs) ≡ list_any (λ x. test (f x)) xs
@@ -29,26 +28,26 @@ one-of test d [] at within is = absurd (omega arith)
 one-of test d (x ∷ xs) zero within is = or_left (test x) (list_any test xs) is
 one-of test d (x ∷ xs) (suc at) within is = or_right (test x) (list_any test xs) (one-of test d xs at (omega arith) is)
 
-turns-same : (content : Content) (start end : ℕ) (tags : List Tag) (marks : List Mark) (widget place : ℕ)
-    → has_tag_at (seen_by content start end tags marks widget) place
-    ≡ list_any (tag_turns content start end widget place) tags
-turns-same content start end tags marks widget place =
-    any-map (λ tag. begins_at place tag || ends_at place tag) (tag_seen content start end widget) tags
+turns-same : (outlook : Outlook) (place : ℕ)
+    → has_tag_at (seen_by outlook) place
+    ≡ list_any (tag_turns outlook place) outlook.tags
+turns-same outlook place =
+    any-map (λ tag. begins_at place tag || ends_at place tag) (tag_seen outlook) outlook.tags
 
-pub tag-stop : (content : Content) (start end : ℕ) (tags : List Tag) (marks : List Mark) (widget place to stop : ℕ)
-    (next : List ℕ) → place < to → to ≤ end - start
-    → ((slot : ℕ) → slot ≡ slot → length (shown_flags slot content start end) ≡ end - start)
-    → ((at : ℕ) → at < length tags → IsKnown content start end tags widget place next at)
-    → ((at : ℕ) → at < length tags → place
-    < next_change (shown_flags (slot_of_row widget (slots_of tags) at) content start end) place)
-    → IsNearest next (length tags) to stop
-    → (place < stop) × IsNextStop (has_tag_at (seen_by content start end tags marks widget)) place to stop
-tag-stop content start end tags marks widget place to stop next some within long known later nearest =
-    let change : ℕ → ℕ = λ at. next_change (shown_flags (slot_of_row widget (slots_of tags) at) content start end) place
+pub tag-stop : (outlook : Outlook) (place to stop : ℕ)
+    (next : List ℕ) → place < to → to ≤ outlook.part.end - outlook.part.start
+    → ((slot : ℕ) → slot ≡ slot → length (shown_flags slot outlook.part) ≡ outlook.part.end - outlook.part.start)
+    → ((at : ℕ) → at < length outlook.tags → IsKnown outlook place next at)
+    → ((at : ℕ) → at < length outlook.tags → place
+    < next_change (shown_flags (slot_at outlook at) outlook.part) place)
+    → IsNearest next (length outlook.tags) to stop
+    → (place < stop) × IsNextStop (has_tag_at (seen_by outlook)) place to stop
+tag-stop outlook place to stop next some within long known later nearest =
+    let change : ℕ → ℕ = λ at. next_change (shown_flags (slot_at outlook at) outlook.part) place
     in
-    let slot-of : (at : ℕ) → at < length tags → slot_of_row widget (slots_of tags) at
-    ≡ own_slot widget (get_or tags at no_tag).slot =
-    λ at inside. ap (own_slot widget) (get_or-map (λ (tag : Tag). tag.slot) tags at no_tag 0 inside) in
+    let slot-of : (at : ℕ) → at < length outlook.tags → slot_at outlook at
+    ≡ own_slot outlook.widget (get_or outlook.tags at no_tag).slot =
+    λ at inside. ap (own_slot outlook.widget) (get_or-map (λ (tag : Tag). tag.slot) outlook.tags at no_tag 0 inside) in
     let above : place < stop = elim nearest.reached [
       | inl end-is ↦ omega arith
       | inr row ↦ omega (arith, row.2, known row.0 row.1, later row.0 row.1)
@@ -56,25 +55,25 @@ tag-stop content start end tags marks widget place to stop next some within long
       above,
       record {
         fails = λ k from upto.
-            turns-same content start end tags marks widget k
-            ∙ none-of (tag_turns content start end widget k) no_tag tags (λ at inside.
-            ap (λ s. turns (shown_flags s content start end) k) (sym (slot-of at inside))
-            ∙ quiet-between (shown_flags (slot_of_row widget (slots_of tags) at) content start end) place k from
+            turns-same outlook k
+            ∙ none-of (tag_turns outlook k) no_tag outlook.tags (λ at inside.
+            ap (λ s. turns (shown_flags s outlook.part) k) (sym (slot-of at inside))
+            ∙ quiet-between (shown_flags (slot_at outlook at) outlook.part) place k from
             (omega (arith, nearest.each at inside, known at inside)));
         reached = elim (cases_lt stop to) [
           | inr end-is ↦ inl (omega (arith, nearest.within))
           | inl before ↦ elim nearest.reached [
             | inl end-is ↦ inl end-is
             | inr row ↦
-                let there : next_change (shown_flags (slot_of_row widget (slots_of tags) row.0) content start end) place
+                let there : next_change (shown_flags (slot_at outlook row.0) outlook.part) place
                 ≡ stop = sym (known row.0 row.1) ∙ row.2 in
-                inr (turns-same content start end tags marks widget stop
-                ∙ one-of (tag_turns content start end widget stop) no_tag tags row.0 row.1
-                (ap (λ s. turns (shown_flags s content start end) stop) (sym (slot-of row.0 row.1))
-                ∙ ap (turns (shown_flags (slot_of_row widget (slots_of tags) row.0) content start end)) (sym there)
-                ∙ turns-there (shown_flags (slot_of_row widget (slots_of tags) row.0) content start end) place
+                inr (turns-same outlook stop
+                ∙ one-of (tag_turns outlook stop) no_tag outlook.tags row.0 row.1
+                (ap (λ s. turns (shown_flags s outlook.part) stop) (sym (slot-of row.0 row.1))
+                ∙ ap (turns (shown_flags (slot_at outlook row.0) outlook.part)) (sym there)
+                ∙ turns-there (shown_flags (slot_at outlook row.0) outlook.part) place
                 (later row.0 row.1)
-                (omega (arith, there, long (slot_of_row widget (slots_of tags) row.0) refl))))
+                (omega (arith, there, long (slot_at outlook row.0) refl))))
           ]
         ];
       },
@@ -82,24 +81,24 @@ tag-stop content start end tags marks widget place to stop next some within long
 
 -- ---- where no tag turns
 
-module _ (content : Content) (start end : ℕ) (tags : List Tag) (marks : List Mark) (widget : ℕ) where
-  none-turns : (k : ℕ) → has_tag_at (seen_by content start end tags marks widget) k ≡ false →
-      (at : ℕ) → at < length tags
-      → turns (shown_flags (slot_of_row widget (slots_of tags) at) content start end) k ≡ false
+module _ (outlook : Outlook) where
+  none-turns : (k : ℕ) → has_tag_at (seen_by outlook) k ≡ false →
+      (at : ℕ) → at < length outlook.tags
+      → turns (shown_flags (slot_at outlook at) outlook.part) k ≡ false
   none-turns k none at within =
-      let test = tag_turns content start end widget k in
-      ap (λ s. turns (shown_flags s content start end) k) (slot-there widget tags at within)
-      ∙ elim (cases_Bool (test (get_or tags at no_tag))) [
-        | inl on ↦ absurd (true≢false (sym (one-of test no_tag tags at within on)
-            ∙ sym (turns-same content start end tags marks widget k) ∙ none))
+      let test = tag_turns outlook k in
+      ap (λ s. turns (shown_flags s outlook.part) k) (slot-there outlook.widget outlook.tags at within)
+      ∙ elim (cases_Bool (test (get_or outlook.tags at no_tag))) [
+        | inl on ↦ absurd (true≢false (sym (one-of test no_tag outlook.tags at within on)
+            ∙ sym (turns-same outlook k) ∙ none))
         | inr off ↦ off
       ]
 
   -- the tags at a place are those before the next one where a tag may turn
   pub before-on : (place next : ℕ) (slots : Slots) → place < next →
-      FailsBetween (has_tag_at (seen_by content start end tags marks widget)) place next →
-      AreAt content start end tags widget place slots → AreBefore content start end tags widget next slots
+      FailsBetween (has_tag_at (seen_by outlook)) place next →
+      AreAt outlook place slots → AreBefore outlook next slots
   before-on place next slots above quiet are at within =
       are at within
-      ∙ sym (quiet-upto (shown_flags (slot_of_row widget (slots_of tags) at) content start end) place next above
+      ∙ sym (quiet-upto (shown_flags (slot_at outlook at) outlook.part) place next above
       (λ k low high. none-turns k (quiet k low high) at within))

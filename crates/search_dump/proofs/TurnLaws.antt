@@ -1,8 +1,8 @@
 -- Tags that are turned where they change.
-use Rattle.search_dump.proofs.Common.{◌≡◌, ◌≢◌, ℕ, inl, inr, ◌<◌, ◌≤◌, ◌⊎◌, ◌==◌, Bool, cond, List, length, refl, sym}
-use Rattle.search_dump.proofs.Common.{ap, ◌∙◌, arith, not, if◌then◌else◌, cases_eq, eq-eqb, ne_eqb, Tag, slots_of}
-use Rattle.search_dump.proofs.Common.{flag_at, next_change, Content, Slots, shown_flags, AreAt, AreBefore, AreKept}
-use Rattle.search_dump.proofs.Common.{AreKnownTo, AreTurned, IsTurned, change_after, slot_of_row, turned_at}
+use Rattle.search_dump.proofs.Common.{outlook, Outlook, slot_at, ◌≡◌, ◌≢◌, ℕ, inl, inr, ◌<◌, ◌≤◌, ◌⊎◌, ◌==◌, Bool, cond}
+use Rattle.search_dump.proofs.Common.{List, length, refl, sym, ap, ◌∙◌, arith, not, if◌then◌else◌, cases_eq, eq-eqb}
+use Rattle.search_dump.proofs.Common.{ne_eqb, slots_of, flag_at, next_change, Slots, shown_flags, AreAt, AreBefore}
+use Rattle.search_dump.proofs.Common.{AreKept, AreKnownTo, AreTurned, IsTurned, change_after, slot_of_row, turned_at}
 use Rattle.search_dump.proofs.Common.{flag_before}
 use Rattle.text_model.proofs.CellLaws.{contains-set_slot}
 use Rattle.search_dump.proofs.ChangeLaws.{flag-other, flag-same, flag-upto}
@@ -97,18 +97,18 @@ turned-flag flags place stop change before above within known upto is =
           ∙ sym (flag-same flags place stop (omega (arith, above)) (omega (arith, upto, known, other)))
     ]
 
-pub turned-are : (content : Content) (start end : ℕ) (tags : List Tag) (widget place stop : ℕ) (next : List ℕ)
+pub turned-are : (outlook : Outlook) (place stop : ℕ) (next : List ℕ)
     (before behind : Slots) → place < stop
-    → ((slot : ℕ) → stop < length (shown_flags slot content start end))
-    → AreKnownTo content start end tags widget place stop next →
-    AreBefore content start end tags widget stop before →
-    ((change : ℕ → ℕ) → AreKept change widget (slots_of tags) (length tags) next
-    → AreTurned change widget (slots_of tags) (length tags) stop before behind) →
-    AreAt content start end tags widget stop behind
-turned-are content start end tags widget place stop next before behind above within known are turned at below =
-    let slot = slot_of_row widget (slots_of tags) at in
-    let change = change_after content start end place in
+    → ((slot : ℕ) → stop < length (shown_flags slot outlook.part))
+    → AreKnownTo outlook place stop next →
+    AreBefore outlook stop before →
+    ((change : ℕ → ℕ) → AreKept change outlook.widget (slots_of outlook.tags) (length outlook.tags) next
+    → AreTurned change outlook.widget (slots_of outlook.tags) (length outlook.tags) stop before behind) →
+    AreAt outlook stop behind
+turned-are outlook place stop next before behind above within known are turned at below =
+    let slot = slot_at outlook at in
+    let change = change_after outlook.part place in
     turned change (λ row inside. (known.each row inside).0) at below
-    ∙ turned-flag (shown_flags slot content start end) place stop (change slot)
+    ∙ turned-flag (shown_flags slot outlook.part) place stop (change slot)
     (set.contains before slot) above (within slot) refl
     (omega (arith, (known.each at below).0, (known.each at below).1)) (are at below)

@@ -11,17 +11,6 @@ use Rattle.search_dump.proofs.PlaceLaws.{NonePasses, find-greatest, find-least, 
 use Rattle.search_dump.proofs.PlaceLaws.{found-ordered, greatest-find, least-find, none-find, none-find-back}
 use Rattle.search_dump.proofs.PlaceLaws.{none-ordered, places-split, reverse-split}
 
--- a part of a part
-pub slice-part : {A : Type 0} (xs : List A) (start end from to : ℕ) → from ≤ to → start + to ≤ end
-    → slice_range (slice_range xs start end) from to ≡ slice_range xs (start + from) (start + to)
-slice-part xs start end from to ordered within =
-    ap (λ n. take (to - from) (drop from (take n (drop start xs)))) (let e : end - start
-    ≡ from + (end - start - from) = omega arith in e)
-    ∙ ap (take (to - from)) (drop-take from (end - start - from) (drop start xs))
-    ∙ take-take (to - from) (end - start - from) (drop from (drop start xs)) (omega arith)
-    ∙ ap (take (to - from)) (drop-drop from start xs)
-    ∙ ap (λ n. take n (drop (start + from) xs)) (omega arith)
-
 pub compared-part : (ignores_case : Bool) (xs : List ℕ) (from to : ℕ) →
     compared ignores_case (slice_range xs from to) ≡ slice_range (compared ignores_case xs) from to
 compared-part true xs from to =

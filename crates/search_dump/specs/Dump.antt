@@ -8,12 +8,12 @@ use Rattle.mark_table.specs.SharedMarks.{Mark, names_of, numbers_of}
 use Rattle.mark_table.specs.declared.order.Shown.{Shown}
 use Rattle.tag_table.specs.Tags.{Tag}
 use Rattle.text_model.specs.Changes.{flag_at}
-use Rattle.text_model.specs.Content.{Content, Slots}
+use Rattle.text_model.specs.Content.{Slots}
 use Rattle.std.specs.FinSet as set
 use Rattle.text_index.specs.Positions.{position_text}
 use Rattle.text_index.specs.Ranges.{tag_ranges}
 use Rattle.text_index.specs.Values.{column_of}
-use Rattle.text_index.specs.Views.{shown, shown_flags}
+use Rattle.text_index.specs.Views.{Part, shown, shown_flags}
 use Rattle.text_index.specs.declared.ranges.TagRange.{TagRange}
 use Rattle.search_dump.specs.Matches.{places}
 use Rattle.search_dump.specs.declared.dumping.Listed.{Listed}
@@ -105,15 +105,22 @@ abbrev pub dump_elements : Listed → Seen → ℕ → ℕ → List (List ℕ)
 dump_elements listed seen from to =
     flat_map (elements_at listed seen from to) (places from to) ++ elements_at_end listed seen from to
 
--- ---- what a widget sees of a document
+-- ---- what a widget sees of a document: a part of its text, with its tables of tags and marks and the slot of the
+-- widget's own `sel`
+
+pub record Outlook : Type 0 where
+  pub part : Part
+  pub tags : List Tag
+  pub marks : List Mark
+  pub widget : ℕ
 
 -- the slot in which the store knows a tag: for `sel`, which has slot 0, that of the widget's own
 abbrev pub own_slot : ℕ → ℕ → ℕ
 own_slot widget slot = if slot == 0 then widget else slot
 
-abbrev pub tag_seen : Content → ℕ → ℕ → ℕ → Tag → Tagged
-tag_seen content start end widget tag =
-    record { name = tag.name; ranges = tag_ranges (shown_flags (own_slot widget tag.slot) content start end) }
+abbrev pub tag_seen : Outlook → Tag → Tagged
+tag_seen outlook tag =
+    record { name = tag.name; ranges = tag_ranges (shown_flags (own_slot outlook.widget tag.slot) outlook.part) }
 
 -- the name of a mark by its rank: the shared ones stand behind the widget's own two
 abbrev pub name_of_rank : List (List ℕ) → ℕ → List ℕ
@@ -124,13 +131,20 @@ name_of_rank names (suc (suc at)) = slice_index_or names at []
 abbrev pub mark_seen : List Mark → ℕ → Shown → Marked
 mark_seen marks start shown = record { name = name_of_rank (names_of marks) shown.rank; place = shown.place - start }
 
--- what the widget whose `sel` has a slot sees in its view
-abbrev pub seen_by : Content → ℕ → ℕ → List Tag → List Mark → ℕ → Seen
-seen_by content start end tags marks widget = record {
-  text = shown content start end;
-  tags = map (tag_seen content start end widget) tags;
-  marks = map (mark_seen marks start) (usable (record { widget = record { 0 = widget }; start = start; end = end })
-      content.marks (numbers_of marks));
+-- the marks that the widget can use in its part
+abbrev pub usable_by : Outlook → List Shown
+usable_by outlook = usable (record {
+  widget = record { 0 = outlook.widget };
+  start = outlook.part.start;
+  end = outlook.part.end;
+}) outlook.part.content.marks (numbers_of outlook.marks)
+
+-- what the widget sees in its part
+abbrev pub seen_by : Outlook → Seen
+seen_by outlook = record {
+  text = shown outlook.part;
+  tags = map (tag_seen outlook) outlook.tags;
+  marks = map (mark_seen outlook.marks outlook.part.start) (usable_by outlook);
 }
 
 -- ---- a tag by the slots of the characters beside a place: it is listed where its slot is on on one side alone

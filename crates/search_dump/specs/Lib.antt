@@ -5,7 +5,7 @@ pub mod Dump
 pub mod MarksAhead
 pub mod Matches
 pub mod Searched
-pub mod Sight
+pub mod Sights
 pub mod Spots
 pub mod Stops
 pub mod Stretches

@@ -4,20 +4,14 @@ use Rattle.std.specs.Prelude.{List, [], ◌∷◌, Option, None, Some, MatchOpti
 use Rattle.std.specs.FinMap as finite
 use Rattle.std.specs.List.{flat_map}
 use Rattle.std.specs.Option.{option_and_then, option_map}
-use Rattle.mark_table.specs.Order.{earlier, rank_of, usable}
-use Rattle.mark_table.specs.SharedMarks.{Mark, numbers_of}
+use Rattle.mark_table.specs.Order.{earlier, rank_of}
+use Rattle.mark_table.specs.SharedMarks.{numbers_of}
 use Rattle.mark_table.specs.declared.order.Shown.{Shown}
 use Rattle.mark_table.specs.declared.order.WidgetMark.{WidgetMark}
 use Rattle.mark_table.specs.declared.order.WidgetMark.TheVariants.{Insert, Current, Shared}
-use Rattle.text_model.specs.Content.{Content}
 use Rattle.text_model.specs.declared.places.Place.{Place}
-use Rattle.search_dump.specs.Dump.{element, if_listed, name_of_rank}
+use Rattle.search_dump.specs.Dump.{Outlook, element, if_listed, name_of_rank, usable_by}
 use Rattle.search_dump.specs.declared.dumped_marks.Marked.{Marked}
-
--- the marks that the widget whose `sel` has a slot can use in its view
-abbrev pub usable_by : Content → ℕ → ℕ → List Mark → ℕ → List Shown
-usable_by content start end marks widget =
-    usable (record { widget = record { 0 = widget }; start = start; end = end }) content.marks (numbers_of marks)
 
 -- one of some marks
 abbrev pub Has : List Shown → Shown → Type 0
@@ -36,11 +30,14 @@ abbrev pub shared_place_in : ℕ → Option Place → Option ℕ
 shared_place_in start place =
     option_and_then (λ (at : Place). if nat_le start at.offset then Some (at.offset - start) else None) place
 
-abbrev pub place_in : Content → ℕ → ℕ → List Mark → ℕ → WidgetMark → Option ℕ
-place_in content start end marks widget Insert = own_place_in start end (finite.get content.marks (2 * widget))
-place_in content start end marks widget Current = own_place_in start end (finite.get content.marks (2 * widget + 1))
-place_in content start end marks widget (Shared at) = option_and_then (λ number.
-    shared_place_in start (finite.get content.marks number)) (slice_get (numbers_of marks) at)
+abbrev pub place_in : Outlook → WidgetMark → Option ℕ
+place_in outlook Insert =
+    own_place_in outlook.part.start outlook.part.end (finite.get outlook.part.content.marks (2 * outlook.widget))
+place_in outlook Current =
+    own_place_in outlook.part.start outlook.part.end (finite.get outlook.part.content.marks (2 * outlook.widget + 1))
+place_in outlook (Shared at) = option_and_then (λ number.
+    shared_place_in outlook.part.start (finite.get outlook.part.content.marks number))
+    (slice_get (numbers_of outlook.marks) at)
 
 -- the first of some marks at a place or behind it
 abbrev pub IsMarkFrom : List Shown → ℕ → Option Shown → Type 0
@@ -48,6 +45,11 @@ IsMarkFrom marks place first =
     MatchOption first ((mark : Shown) → Has marks mark → mark.place < place)
     (λ found. Has marks found × (place ≤ found.place)
     × ((mark : Shown) → Has marks mark → place ≤ mark.place → earlier mark found ≡ false))
+
+-- the first of the marks that a widget can use at an offset of the text or after it
+abbrev pub IsFirstMark : Outlook → ℕ → Option Marked → Type 0
+IsFirstMark outlook offset first =
+    IsMarkFrom (usable_by outlook) offset (option_map (shown_of outlook.part.start) first)
 
 -- the first behind another mark
 abbrev pub IsMarkBehind : List Shown → Shown → Option Shown → Type 0

@@ -5,7 +5,8 @@ ghost use Rattle.std.specs.Prelude.{slice_range, string_bytes, IfOk, OnOk};
 ghost use Rattle.std.specs.Str.{IsCharBoundary};
 ghost use Rattle.tcl_words.specs.ListGrowth.{Goes};
 ghost use Rattle.search_dump.specs.Dump.{element};
-ghost use Rattle.search_dump.specs.Sight.{text_in, ShowsLines};
+ghost use Rattle.text_index.specs.Parts.{part_of};
+ghost use Rattle.text_index.specs.Views.{shown};
 ghost use Rattle.search_dump.specs.Spots.{IsSpot};
 
 use crate::listing::{Listing, Spot};
@@ -56,11 +57,10 @@ impl Copied {
         spot: Spot,
         to: usize,
     ) -> Result<(), AllocError>
-        requires view { ShowsLines S.content view.now }
-        requires left { AreLeft (text_in S.content view.now) self.old }
+        requires left { AreLeft (shown (part_of view.now)) self.old }
         requires ordered { spot.place ≤ to }
-        requires within { view.now.s + to ≤ view.now.e }
-        ensures left { IfOk result (λ _. AreLeft (text_in S.content view.now) self.new) }
+        requires within { view.now.start + to ≤ view.now.end }
+        ensures left { IfOk result (λ _. AreLeft (shown (part_of view.now)) self.new) }
         ensures place { IfOk result (λ _. self.new.place ≡ spot.place) }
         ensures end { IfOk result (λ _. to ≤ self.new.end) }
         ensures limit { self.new.limit ≡ self.old.limit }
@@ -69,7 +69,7 @@ impl Copied {
             return Ok(());
         }
         let end = spot.line.end.min(self.limit).max(to);
-        let text = view.store.copy_text(view.s + spot.place, view.s + end)?;
+        let text = view.copy_text(spot.place, end)?;
         *self = Copied {
             text,
             byte: 0,

@@ -3,10 +3,10 @@
 ghost use Rattle.std.specs.Prelude.{◌≡◌, ◌≤◌, ◌+◌, ◌++◌, ◌∷◌, [], decimal, map, string_bytes, encode_utf8_all, IfOk};
 ghost use Rattle.std.specs.Prelude.{IsAscii, OnOk};
 ghost use Rattle.tcl_words.specs.ListText.{list_text};
-ghost use Rattle.text_index.specs.Views.{shown, IsView};
+ghost use Rattle.text_index.specs.Views.{shown};
 ghost use Rattle.search_dump.specs.Counts.{counted, difference, distance, number_at};
 ghost use Rattle.tcl_words.specs.ListGrowth.{Goes};
-ghost use Rattle.search_dump.specs.Sight.{text_in, ShowsLines};
+ghost use Rattle.text_index.specs.Parts.{part_of};
 
 use itoa::Buffer;
 use std::alloc::{AllocError, Global};
@@ -23,9 +23,8 @@ pub enum Counted {
 
 /// How many characters or newlines stand before a place of the view.
 fn number_at<S: TextStore>(view: &View<'_, S>, counted: Counted, place: usize) -> usize
-    requires view { ShowsLines S.content view.now }
-    requires within { view.now.s + place ≤ view.now.e }
-    ensures { result ≡ number_at counted (text_in S.content view.now) place }
+    requires within { view.now.start + place ≤ view.now.end }
+    ensures { result ≡ number_at counted (shown (part_of view.now)) place }
 {
     match counted {
         Counted::Characters => place,
@@ -78,11 +77,10 @@ fn push_count<S: TextStore>(
     from: usize,
     to: usize,
 ) -> Result<(), AllocError>
-    requires view { ShowsLines S.content view.now }
-    requires from { view.now.s + from ≤ view.now.e }
-    requires to { view.now.s + to ≤ view.now.e }
+    requires from { view.now.start + from ≤ view.now.end }
+    requires to { view.now.start + to ≤ view.now.end }
     ensures { OnOk result (Goes (string_bytes list.old) (string_bytes list.new)
-        (distance (text_in S.content view.now) from to option ∷ [])) }
+        (distance (shown (part_of view.now)) from to option ∷ [])) }
 {
     let first = number_at(view, option, from);
     let second = number_at(view, option, to);
@@ -97,11 +95,10 @@ fn push_counts<S: TextStore>(
     from: usize,
     to: usize,
 ) -> Result<(), AllocError>
-    requires view { ShowsLines S.content view.now }
-    requires from { view.now.s + from ≤ view.now.e }
-    requires to { view.now.s + to ≤ view.now.e }
+    requires from { view.now.start + from ≤ view.now.end }
+    requires to { view.now.start + to ≤ view.now.end }
     ensures { OnOk result (Goes (string_bytes list.old) (string_bytes list.new)
-        (map (distance (text_in S.content view.now) from to) options.now)) }
+        (map (distance (shown (part_of view.now)) from to) options.now)) }
 {
     let mut word = String::new(*list.allocator());
     for option in options {
@@ -118,11 +115,10 @@ fn list_counts<S: TextStore>(
     from: usize,
     to: usize,
 ) -> Result<String, AllocError>
-    requires view { ShowsLines S.content view.now }
-    requires from { view.now.s + from ≤ view.now.e }
-    requires to { view.now.s + to ≤ view.now.e }
+    requires from { view.now.start + from ≤ view.now.end }
+    requires to { view.now.start + to ≤ view.now.end }
     ensures { IfOk result (λ answer. string_bytes answer ≡ encode_utf8_all (list_text
-        (map (distance (text_in S.content view.now) from to) options.now))) }
+        (map (distance (shown (part_of view.now)) from to) options.now))) }
 {
     let mut list = String::new(alloc);
     push_counts(&mut list, view, options, from, to)?;
@@ -139,12 +135,11 @@ pub fn count<S: TextStore>(
     from: usize,
     to: usize,
 ) -> Result<String, AllocError>
-    requires view { IsView (S.content view.now.store.now) view.now.s view.now.e }
-    requires from { view.now.s + from ≤ view.now.e }
-    requires to { view.now.s + to ≤ view.now.e }
+    requires from { view.now.start + from ≤ view.now.end }
+    requires to { view.now.start + to ≤ view.now.end }
     ensures { IfOk result (λ answer. string_bytes answer
         ≡ encode_utf8_all (list_text
-        (counted options.now (shown (S.content view.now.store.now) view.now.s view.now.e) from to))) }
+        (counted options.now (shown (part_of view.now)) from to))) }
 {
     if options.is_empty() {
         return list_counts(alloc, view, &[Counted::Characters], from, to);

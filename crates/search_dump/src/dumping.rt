@@ -11,29 +11,30 @@ ghost use Rattle.text_model.specs.TagBits.{slot_count};
 ghost use Rattle.tcl_words.specs.ListText.{list_text, needs_quotes};
 ghost use Rattle.text_model.specs.declared.limits.TheConstants.Limits.{MOST_WIDGETS};
 ghost use Rattle.text_index.specs.Values.{column_of};
-ghost use Rattle.text_index.specs.Views.{IsView};
+ghost use Rattle.text_index.specs.Parts.{part_of};
+ghost use Rattle.text_index.specs.Views.{shown};
 ghost use Rattle.search_dump.specs.Stops.{has_tag_at, stop_at_mark, stops_at_marks, stops_at_tags, tag_stops};
 ghost use Rattle.search_dump.specs.Stops.{IsNextStop};
 ghost use Rattle.search_dump.specs.Stops.{IsStop};
 ghost use Rattle.search_dump.specs.Matches.{places};
-ghost use Rattle.search_dump.specs.MarksAhead.{mark_element, shown_of, Has};
+ghost use Rattle.search_dump.specs.MarksAhead.{mark_element, shown_of, Has, IsFirstMark};
 ghost use Rattle.search_dump.specs.Dump.{dump_elements, elements_at, element, if_listed, mark_elements, only_in};
-ghost use Rattle.search_dump.specs.Dump.{seen_by, tagoff_elements};
+ghost use Rattle.search_dump.specs.Dump.{seen_by, tagoff_elements, usable_by};
 ghost use Rattle.tcl_words.specs.ListGrowth.{Goes};
-ghost use Rattle.search_dump.specs.Sight.{seen_in, marks_in, text_in, IsFirstMark, ShowsLines};
-ghost use Rattle.search_dump.specs.Sight.{AreChangesAhead, AreChangesKnown, AreTagsAt, AreTagsBefore};
-ghost use Rattle.search_dump.specs.Sight.{IsNextTurn, IsQuietBesides};
+ghost use Rattle.search_dump.specs.Ahead.{AreAhead, AreAt, AreBefore, AreKnownTo};
+ghost use Rattle.search_dump.specs.Sights.{outlook};
 ghost use Rattle.search_dump.specs.Spots.{IsSpot};
-ghost use Rattle.search_dump.specs.Turns.{AreAlike, AreBehind};
+ghost use Rattle.search_dump.specs.Turns.{AreAlike, AreBehind, AreQuiet, IsTurnBehind};
 ghost use Rattle.search_dump.specs.Copies.{AreLeft};
 
 use crate::copied::Copied;
 use crate::dumped_marks::{Marked, mark_from};
 use crate::listing::{Listing, Spot};
+use crate::sights::Sight;
 use crate::tag_changes::{TagChanges, own_slot, tags_at, tags_left_of};
 use crate::turns::{Rows, Turn};
 use std::alloc::{AllocError, Global};
-use text_index::{Names, View};
+use text_index::View;
 use text_model::{LineSpan, TagSet, TagSlot, TextStore};
 
 /// What a dump lists.
@@ -60,13 +61,6 @@ impl Listed {
     }
 }
 
-/// What a widget sees: its lines, and the names of tags and marks.
-#[derive(Drop)]
-struct Sight<'a, S: TextStore> {
-    view: &'a View<'a, S>,
-    names: &'a Names<'a>,
-}
-
 /// Appends the tag at a place of the table as one that begins or ends, if it is one.
 fn push_tag<S: TextStore>(
     out: &mut Listing,
@@ -76,11 +70,11 @@ fn push_tag<S: TextStore>(
     at: usize,
     is_listed: bool,
 ) -> Result<(), AllocError>
-    requires spot { IsSpot (text_in S.content sight.now.view.now) spot }
+    requires spot { IsSpot (shown (part_of sight.now.view.now)) spot }
     requires plain { needs_quotes (chars key.now) ≡ false }
     requires tag { at < length sight.now.names.now.tags.now.tags }
     ensures { OnOk result (Goes (string_bytes out.old.list) (string_bytes out.new.list) (if_listed is_listed
-        (element (chars key.now) (text_in S.content sight.now.view.now) spot.place
+        (element (chars key.now) (shown (part_of sight.now.view.now)) spot.place
         (slice_index_or (names_of sight.now.names.now.tags.now.tags) at [])))) }
 {
     if !is_listed {
@@ -113,7 +107,7 @@ fn push_tags<S: TextStore>(
     spot: Spot,
     sides: &Sides<'_>,
 ) -> Result<(), AllocError>
-    requires spot { IsSpot (text_in S.content sight.now.view.now) spot }
+    requires spot { IsSpot (shown (part_of sight.now.view.now)) spot }
     requires plain { needs_quotes (chars key.now) ≡ false }
     requires widget { sight.now.names.now.widget.0 < MOST_WIDGETS }
     requires rows { sides.now.rows.end ≤ length sight.now.names.now.tags.now.tags }
@@ -121,7 +115,7 @@ fn push_tags<S: TextStore>(
         (length sight.now.names.now.tags.now.tags) sides.now.rows sides.now.on.now sides.now.off.now }
     ensures { OnOk result (Goes (string_bytes out.old.list) (string_bytes out.new.list) (flat_map
         (only_in sides.now.on.now sides.now.off.now sight.now.names.now.widget.0 (chars key.now)
-        (text_in S.content sight.now.view.now) spot.place) sight.now.names.now.tags.now.tags)) }
+        (shown (part_of sight.now.view.now)) spot.place) sight.now.names.now.tags.now.tags)) }
 {
     for at in sides.rows.first..sides.rows.end {
         let slot = own_slot(sight.names, at);
@@ -145,13 +139,12 @@ fn push_mark<S: TextStore>(
     spot: Spot,
     mark: Marked,
 ) -> Result<(), AllocError>
-    requires view { ShowsLines S.content sight.now.view.now }
-    requires spot { IsSpot (text_in S.content sight.now.view.now) spot }
-    requires usable { Has (marks_in S.content sight.now.view.now sight.now.names.now)
-        (shown_of sight.now.view.now.s mark) }
+    requires spot { IsSpot (shown (part_of sight.now.view.now)) spot }
+    requires usable { Has (usable_by (outlook sight.now))
+        (shown_of sight.now.view.now.start mark) }
     ensures { OnOk result (Goes (string_bytes out.old.list) (string_bytes out.new.list) (if_listed is_listed
-        (mark_element (text_in S.content sight.now.view.now) (marks.names_of sight.now.names.now.marks.now.marks)
-        spot.place (shown_of sight.now.view.now.s mark)))) }
+        (mark_element (shown (part_of sight.now.view.now)) (marks.names_of sight.now.names.now.marks.now.marks)
+        spot.place (shown_of sight.now.view.now.start mark)))) }
 {
     if !is_listed {
         return Ok(());
@@ -167,16 +160,15 @@ fn push_marks_at<S: TextStore>(
     spot: Spot,
     first: Option<Marked>,
 ) -> Result<Option<Marked>, AllocError>
-    requires view { ShowsLines S.content sight.now.view.now }
-    requires spot { IsSpot (text_in S.content sight.now.view.now) spot }
+    requires spot { IsSpot (shown (part_of sight.now.view.now)) spot }
     requires widget { sight.now.names.now.widget.0 < MOST_WIDGETS }
-    requires within { sight.now.view.now.s + spot.place ≤ sight.now.view.now.e }
-    requires first { IsFirstMark S.content sight.now.view.now sight.now.names.now
-        (sight.now.view.now.s + spot.place) first }
+    requires within { sight.now.view.now.start + spot.place ≤ sight.now.view.now.end }
+    requires first { IsFirstMark (outlook sight.now)
+        (sight.now.view.now.start + spot.place) first }
     ensures goes { OnOk result (Goes (string_bytes out.old.list) (string_bytes out.new.list)
-        (if_listed is_listed (mark_elements (seen_in S.content sight.now.view.now sight.now.names.now) spot.place))) }
-    ensures next { IfOk result (λ next. IsFirstMark S.content sight.now.view.now sight.now.names.now
-        (sight.now.view.now.s + spot.place + 1) next) }
+        (if_listed is_listed (mark_elements (seen_by (outlook sight.now)) spot.place))) }
+    ensures next { IfOk result (λ next. IsFirstMark (outlook sight.now)
+        (sight.now.view.now.start + spot.place + 1) next) }
 {
     let mut next = first;
     while let Some(mark) = next {
@@ -184,7 +176,7 @@ fn push_marks_at<S: TextStore>(
             return Ok(next);
         }
         push_mark(out, sight, is_listed, spot, mark)?;
-        next = mark.next(sight.view, sight.names);
+        next = mark.next(sight);
     }
     Ok(None)
 }
@@ -198,17 +190,17 @@ fn push_listed_tags<S: TextStore>(
     spot: Spot,
     sides: &Sides<'_>,
 ) -> Result<(), AllocError>
-    requires spot { IsSpot (text_in S.content sight.now.view.now) spot }
+    requires spot { IsSpot (shown (part_of sight.now.view.now)) spot }
     requires widget { sight.now.names.now.widget.0 < MOST_WIDGETS }
     requires rows { sides.now.rows.end ≤ length sight.now.names.now.tags.now.tags }
-    requires quiet { IsTrue listed.tags → IsQuietBesides S.content sight.now.view.now sight.now.names.now
+    requires quiet { IsTrue listed.tags → AreQuiet (outlook sight.now)
         sides.now.rows spot.place }
-    requires before { IsTrue listed.tags → AreTagsBefore S.content sight.now.view.now sight.now.names.now spot.place
+    requires before { IsTrue listed.tags → AreBefore (outlook sight.now) spot.place
         sides.now.on.now }
-    requires behind { IsTrue listed.tags → AreTagsAt S.content sight.now.view.now sight.now.names.now spot.place
+    requires behind { IsTrue listed.tags → AreAt (outlook sight.now) spot.place
         sides.now.off.now }
     ensures { OnOk result (Goes (string_bytes out.old.list) (string_bytes out.new.list)
-        (tag_stops listed (seen_in S.content sight.now.view.now sight.now.names.now) spot.place)) }
+        (tag_stops listed (seen_by (outlook sight.now)) spot.place)) }
 {
     if !listed.tags {
         return Ok(());
@@ -232,17 +224,16 @@ fn push_listed_marks<S: TextStore>(
     spot: Spot,
     first: Option<Marked>,
 ) -> Result<Option<Marked>, AllocError>
-    requires view { ShowsLines S.content sight.now.view.now }
-    requires spot { IsSpot (text_in S.content sight.now.view.now) spot }
+    requires spot { IsSpot (shown (part_of sight.now.view.now)) spot }
     requires widget { sight.now.names.now.widget.0 < MOST_WIDGETS }
-    requires within { sight.now.view.now.s + spot.place ≤ sight.now.view.now.e }
+    requires within { sight.now.view.now.start + spot.place ≤ sight.now.view.now.end }
     requires first { IsTrue (stops_at_marks listed) →
-        IsFirstMark S.content sight.now.view.now sight.now.names.now (sight.now.view.now.s + spot.place) first }
+        IsFirstMark (outlook sight.now) (sight.now.view.now.start + spot.place) first }
     ensures goes { OnOk result (Goes (string_bytes out.old.list) (string_bytes out.new.list)
-        (if_listed listed.marks (mark_elements (seen_in S.content sight.now.view.now sight.now.names.now)
+        (if_listed listed.marks (mark_elements (seen_by (outlook sight.now))
         spot.place))) }
     ensures next { IfOk result (λ next. IsTrue (stops_at_marks listed) →
-        IsFirstMark S.content sight.now.view.now sight.now.names.now (sight.now.view.now.s + spot.place + 1) next) }
+        IsFirstMark (outlook sight.now) (sight.now.view.now.start + spot.place + 1) next) }
     ensures behind { IfOk result (λ next. IfSome next (λ mark. spot.place < mark.place)) }
 {
     if !listed.stops_at_marks() {
@@ -260,15 +251,14 @@ fn push_listed_text<S: TextStore>(
     to: usize,
     copied: &mut Copied,
 ) -> Result<(), AllocError>
-    requires view { ShowsLines S.content view.now }
-    requires spot { IsSpot (text_in S.content view.now) spot }
+    requires spot { IsSpot (shown (part_of view.now)) spot }
     requires ordered { spot.place ≤ to }
-    requires within { view.now.s + to ≤ view.now.e }
-    requires left { AreLeft (text_in S.content view.now) copied.old }
+    requires within { view.now.start + to ≤ view.now.end }
+    requires left { AreLeft (shown (part_of view.now)) copied.old }
     ensures goes { OnOk result (Goes (string_bytes out.old.list) (string_bytes out.new.list)
         (if_listed listed.text (element (codes "text")
-        (text_in S.content view.now) spot.place (slice_range (text_in S.content view.now) spot.place to)))) }
-    ensures left { IfOk result (λ _. AreLeft (text_in S.content view.now) copied.new) }
+        (shown (part_of view.now)) spot.place (slice_range (shown (part_of view.now)) spot.place to)))) }
+    ensures left { IfOk result (λ _. AreLeft (shown (part_of view.now)) copied.new) }
 {
     if !listed.text {
         return Ok(());
@@ -288,7 +278,7 @@ fn listed_changes<S: TextStore>(
     to: usize,
 ) -> Result<TagChanges, AllocError>
     ensures { IfOk result (λ changes. IsTrue (stops_at_tags listed) → from < to →
-        AreChangesAhead S.content sight.now.view.now sight.now.names.now from changes.next.items) }
+        AreAhead (outlook sight.now) from changes.next.items) }
 {
     if from == to || !listed.stops_at_tags() {
         return TagChanges::new(alloc, 0, from);
@@ -328,18 +318,17 @@ fn next_turn<S: TextStore>(
     place: usize,
     to: usize,
 ) -> Turn
-    requires view { ShowsLines S.content sight.now.view.now }
     requires widget { sight.now.names.now.widget.0 < MOST_WIDGETS }
     requires some { place < to }
-    requires within { sight.now.view.now.s + to ≤ sight.now.view.now.e }
+    requires within { sight.now.view.now.start + to ≤ sight.now.view.now.end }
     requires from { place ≤ turn.place }
     requires upto { turn.place ≤ to }
     requires rows { turn.rows.end ≤ length sight.now.names.now.tags.now.tags }
-    requires ahead { turn.place ≡ place → AreChangesAhead S.content sight.now.view.now sight.now.names.now
+    requires ahead { turn.place ≡ place → AreAhead (outlook sight.now)
         place changes.old.next.items }
     requires apart { turn.place ≡ place → AreBehind turn.rows changes.old.next.items
         (length sight.now.names.now.tags.now.tags) place }
-    ensures found { turn.place ≡ place → IsNextTurn S.content sight.now.view.now sight.now.names.now place to
+    ensures found { turn.place ≡ place → IsTurnBehind (outlook sight.now) place to
         changes.new.next.items result }
     ensures kept { turn.place ≢ place → result ≡ turn }
     ensures same { turn.place ≢ place → changes.new.next.items ≡ changes.old.next.items }
@@ -350,7 +339,7 @@ fn next_turn<S: TextStore>(
     if turn.place != place {
         return turn;
     }
-    changes.pass(sight.view, sight.names, turn.rows, place);
+    changes.pass(sight, turn.rows, place);
     changes.nearest(to)
 }
 
@@ -366,14 +355,13 @@ fn stop_at_mark(mark: Option<Marked>, to: usize) -> usize
 
 /// Where the line behind that of a place begins, or another place, if that stands before it or text isn't listed.
 fn stop_at_line<S: TextStore>(view: &View<'_, S>, listed: Listed, spot: Spot, to: usize) -> usize
-    requires view { ShowsLines S.content view.now }
-    requires spot { IsSpot (text_in S.content view.now) spot }
+    requires spot { IsSpot (shown (part_of view.now)) spot }
     requires some { spot.place < to }
-    requires within { view.now.s + to ≤ view.now.e }
+    requires within { view.now.start + to ≤ view.now.end }
     ensures above { spot.place < result }
     ensures below { result ≤ to }
     ensures stop { IsTrue listed.text →
-        IsNextStop (λ k. column_of (text_in S.content view.now) k == 0) spot.place to result }
+        IsNextStop (λ k. column_of (shown (part_of view.now)) k == 0) spot.place to result }
 {
     if !listed.text {
         return to;
@@ -390,19 +378,18 @@ fn next_stop<S: TextStore>(
     tag: usize,
     to: usize,
 ) -> usize
-    requires view { ShowsLines S.content sight.now.view.now }
-    requires spot { IsSpot (text_in S.content sight.now.view.now) spot }
+    requires spot { IsSpot (shown (part_of sight.now.view.now)) spot }
     requires some { spot.place < tag }
     requires upto { tag ≤ to }
-    requires within { sight.now.view.now.s + to ≤ sight.now.view.now.e }
+    requires within { sight.now.view.now.start + to ≤ sight.now.view.now.end }
     requires tag { IsTrue (stops_at_tags listed) →
-        IsNextStop (has_tag_at (seen_in S.content sight.now.view.now sight.now.names.now)) spot.place to tag }
+        IsNextStop (has_tag_at (seen_by (outlook sight.now))) spot.place to tag }
     requires mark { IsTrue (stops_at_marks listed) →
-        IsFirstMark S.content sight.now.view.now sight.now.names.now (sight.now.view.now.s + spot.place + 1) mark }
+        IsFirstMark (outlook sight.now) (sight.now.view.now.start + spot.place + 1) mark }
     requires behind { IfSome mark (λ next. spot.place < next.place) }
     ensures mark { IsTrue (stops_at_marks listed) →
-        IsFirstMark S.content sight.now.view.now sight.now.names.now (sight.now.view.now.s + result) mark }
-    ensures stop { IsStop listed (seen_in S.content sight.now.view.now sight.now.names.now) spot.place to result }
+        IsFirstMark (outlook sight.now) (sight.now.view.now.start + result) mark }
+    ensures stop { IsStop listed (seen_by (outlook sight.now)) spot.place to result }
     ensures before { result ≤ tag }
 {
     stop_at_line(sight.view, listed, spot, stop_at_mark(mark, tag))
@@ -410,23 +397,21 @@ fn next_stop<S: TextStore>(
 
 /// The first mark at a place or behind it, if a dump stops at marks.
 fn listed_mark<S: TextStore>(sight: &Sight<'_, S>, listed: Listed, place: usize) -> Option<Marked>
-    requires view { ShowsLines S.content sight.now.view.now }
     requires widget { sight.now.names.now.widget.0 < MOST_WIDGETS }
-    requires within { sight.now.view.now.s + place ≤ sight.now.view.now.e }
+    requires within { sight.now.view.now.start + place ≤ sight.now.view.now.end }
     ensures { IsTrue (stops_at_marks listed) →
-        IsFirstMark S.content sight.now.view.now sight.now.names.now (sight.now.view.now.s + place) result }
+        IsFirstMark (outlook sight.now) (sight.now.view.now.start + place) result }
 {
     if !listed.stops_at_marks() {
         return None;
     }
-    mark_from(sight.view, sight.names, place)
+    mark_from(sight, place)
 }
 
 /// The tags of the character before a place, if tags are listed.
 fn listed_before<S: TextStore>(sight: &Sight<'_, S>, listed: Listed, place: usize) -> TagSet
-    requires view { ShowsLines S.content sight.now.view.now }
-    requires within { sight.now.view.now.s + place ≤ sight.now.view.now.e }
-    ensures { IsTrue listed.tags → AreTagsBefore S.content sight.now.view.now sight.now.names.now place result }
+    requires within { sight.now.view.now.start + place ≤ sight.now.view.now.end }
+    ensures { IsTrue listed.tags → AreBefore (outlook sight.now) place result }
 {
     if !listed.tags {
         return TagSet::empty();
@@ -436,9 +421,8 @@ fn listed_before<S: TextStore>(sight: &Sight<'_, S>, listed: Listed, place: usiz
 
 /// The tags of the character at a place, if tags are listed.
 fn listed_behind<S: TextStore>(sight: &Sight<'_, S>, listed: Listed, place: usize) -> TagSet
-    requires view { ShowsLines S.content sight.now.view.now }
-    requires within { sight.now.view.now.s + place ≤ sight.now.view.now.e }
-    ensures { IsTrue listed.tags → AreTagsAt S.content sight.now.view.now sight.now.names.now place result }
+    requires within { sight.now.view.now.start + place ≤ sight.now.view.now.end }
+    ensures { IsTrue listed.tags → AreAt (outlook sight.now) place result }
 {
     if !listed.tags {
         return TagSet::empty();
@@ -456,17 +440,16 @@ fn turned_tags<S: TextStore>(
     stop: usize,
     before: &TagSet,
 ) -> TagSet
-    requires view { ShowsLines S.content sight.now.view.now }
     requires widget { sight.now.names.now.widget.0 < MOST_WIDGETS }
     requires rows { rows.end ≤ length sight.now.names.now.tags.now.tags }
-    requires known { IsTrue listed.tags → (place : ℕ) × (place < stop) × AreChangesKnown S.content sight.now.view.now
-        sight.now.names.now place stop changes.now.next.items }
+    requires known { IsTrue listed.tags → (place : ℕ) × (place < stop)
+        × AreKnownTo (outlook sight.now) place stop changes.now.next.items }
     requires apart { IsTrue listed.tags → AreBehind rows changes.now.next.items
         (length sight.now.names.now.tags.now.tags) stop }
-    requires before { IsTrue listed.tags → AreTagsBefore S.content sight.now.view.now sight.now.names.now stop
+    requires before { IsTrue listed.tags → AreBefore (outlook sight.now) stop
         before.now }
-    ensures { IsTrue listed.tags → sight.now.view.now.s + stop < sight.now.view.now.e →
-        AreTagsAt S.content sight.now.view.now sight.now.names.now stop result }
+    ensures { IsTrue listed.tags → sight.now.view.now.start + stop < sight.now.view.now.end →
+        AreAt (outlook sight.now) stop result }
 {
     if !listed.tags {
         return TagSet::empty();
@@ -492,22 +475,21 @@ fn push_elements<S: TextStore>(
     from: usize,
     to: usize,
 ) -> Result<Reached, AllocError>
-    requires view { ShowsLines S.content sight.now.view.now }
     requires widget { sight.now.names.now.widget.0 < MOST_WIDGETS }
     requires ordered { from ≤ to }
-    requires within { sight.now.view.now.s + to ≤ sight.now.view.now.e }
+    requires within { sight.now.view.now.start + to ≤ sight.now.view.now.end }
     ensures goes { OnOk result (Goes (string_bytes out.old.list) (string_bytes out.new.list)
-        (flat_map (elements_at listed (seen_in S.content sight.now.view.now sight.now.names.now) from to)
+        (flat_map (elements_at listed (seen_by (outlook sight.now)) from to)
         (places from to))) }
-    ensures spot { IfOk result (λ reached. IsSpot (text_in S.content sight.now.view.now)
+    ensures spot { IfOk result (λ reached. IsSpot (shown (part_of sight.now.view.now))
         (record { place = to; line = reached.line })) }
     ensures mark { IfOk result (λ reached. IsTrue (stops_at_marks listed) →
-        IsFirstMark S.content sight.now.view.now sight.now.names.now (sight.now.view.now.s + to) reached.mark) }
+        IsFirstMark (outlook sight.now) (sight.now.view.now.start + to) reached.mark) }
     ensures before { IfOk result (λ reached. IsTrue listed.tags →
-        AreTagsBefore S.content sight.now.view.now sight.now.names.now to reached.before) }
+        AreBefore (outlook sight.now) to reached.before) }
     ensures rows { IfOk result (λ reached. reached.rows.end ≤ length sight.now.names.now.tags.now.tags) }
     ensures quiet { IfOk result (λ reached. IsTrue listed.tags →
-        IsQuietBesides S.content sight.now.view.now sight.now.names.now reached.rows to) }
+        AreQuiet (outlook sight.now) reached.rows to) }
 {
     let mut changes = listed_changes(*out.list.allocator(), sight, listed, from, to)?;
     let mut mark = listed_mark(sight, listed, from);
@@ -552,20 +534,19 @@ fn push_end<S: TextStore>(
     end: usize,
     reached: &Reached,
 ) -> Result<(), AllocError>
-    requires view { ShowsLines S.content sight.now.view.now }
-    requires spot { IsSpot (text_in S.content sight.now.view.now) (record { place = end; line = reached.now.line }) }
+    requires spot { IsSpot (shown (part_of sight.now.view.now)) (record { place = end; line = reached.now.line }) }
     requires widget { sight.now.names.now.widget.0 < MOST_WIDGETS }
-    requires end { end ≡ length (text_in S.content sight.now.view.now) }
+    requires end { end ≡ length (shown (part_of sight.now.view.now)) }
     requires mark { IsTrue (stops_at_marks listed) →
-        IsFirstMark S.content sight.now.view.now sight.now.names.now (sight.now.view.now.s + end) reached.now.mark }
-    requires before { IsTrue listed.tags → AreTagsBefore S.content sight.now.view.now sight.now.names.now
+        IsFirstMark (outlook sight.now) (sight.now.view.now.start + end) reached.now.mark }
+    requires before { IsTrue listed.tags → AreBefore (outlook sight.now)
         end reached.now.before }
     requires rows { reached.now.rows.end ≤ length sight.now.names.now.tags.now.tags }
-    requires quiet { IsTrue listed.tags → IsQuietBesides S.content sight.now.view.now sight.now.names.now
+    requires quiet { IsTrue listed.tags → AreQuiet (outlook sight.now)
         reached.now.rows end }
     ensures { OnOk result (Goes (string_bytes out.old.list) (string_bytes out.new.list)
-        (if_listed listed.tags (tagoff_elements (seen_in S.content sight.now.view.now sight.now.names.now) end)
-        ++ if_listed listed.marks (mark_elements (seen_in S.content sight.now.view.now sight.now.names.now) end))) }
+        (if_listed listed.tags (tagoff_elements (seen_by (outlook sight.now)) end)
+        ++ if_listed listed.marks (mark_elements (seen_by (outlook sight.now)) end))) }
 {
     let spot = Spot {
         place: end,
@@ -589,12 +570,11 @@ fn push_dump<S: TextStore>(
     from: usize,
     to: usize,
 ) -> Result<(), AllocError>
-    requires view { ShowsLines S.content sight.now.view.now }
     requires widget { sight.now.names.now.widget.0 < MOST_WIDGETS }
-    requires from { sight.now.view.now.s + from ≤ sight.now.view.now.e }
-    requires to { sight.now.view.now.s + to ≤ sight.now.view.now.e }
+    requires from { sight.now.view.now.start + from ≤ sight.now.view.now.end }
+    requires to { sight.now.view.now.start + to ≤ sight.now.view.now.end }
     ensures { OnOk result (Goes (string_bytes out.old.list) (string_bytes out.new.list)
-        (dump_elements listed (seen_in S.content sight.now.view.now sight.now.names.now) from to)) }
+        (dump_elements listed (seen_by (outlook sight.now)) from to)) }
 {
     if to < from {
         return Ok(());
@@ -612,21 +592,18 @@ fn push_dump<S: TextStore>(
 /// there and its marks come last.
 pub fn dump<S: TextStore>(
     alloc: Global,
-    view: &View<'_, S>,
-    names: &Names<'_>,
+    sight: &Sight<'_, S>,
     listed: Listed,
     from: usize,
     to: usize,
 ) -> Result<String, AllocError>
-    requires view { IsView (S.content view.now.store.now) view.now.s view.now.e }
-    requires widget { names.now.widget.0 < MOST_WIDGETS }
-    requires from { view.now.s + from ≤ view.now.e }
-    requires to { view.now.s + to ≤ view.now.e }
-    ensures { IfOk result (λ answer. string_bytes answer ≡ encode_utf8_all (list_text (dump_elements listed
-        (seen_by (S.content view.now.store.now) view.now.s view.now.e names.now.tags.now.tags names.now.marks.now.marks
-        names.now.widget.0) from to))) }
+    requires widget { sight.now.names.now.widget.0 < MOST_WIDGETS }
+    requires from { sight.now.view.now.start + from ≤ sight.now.view.now.end }
+    requires to { sight.now.view.now.start + to ≤ sight.now.view.now.end }
+    ensures { IfOk result (λ answer. string_bytes answer
+        ≡ encode_utf8_all (list_text (dump_elements listed (seen_by (outlook sight.now)) from to))) }
 {
     let mut out = Listing::new(alloc);
-    push_dump(&mut out, &Sight { view, names }, listed, from, to)?;
+    push_dump(&mut out, sight, listed, from, to)?;
     Ok(out.list)
 }

@@ -14,9 +14,11 @@ mod listing;
 mod matching;
 mod patterns;
 mod searching;
+mod sights;
 mod tag_changes;
 mod turns;
 
 pub use counting::{Counted, count};
 pub use dumping::{Listed, dump};
 pub use searching::{SearchSwitches, Wanted, search};
+pub use sights::Sight;

@@ -5,7 +5,8 @@ ghost use Rattle.text_index.specs.Positions.{position_text};
 ghost use Rattle.tcl_words.specs.ListGrowth.{Goes};
 ghost use Rattle.tcl_words.specs.ListText.{needs_quotes};
 ghost use Rattle.search_dump.specs.Dump.{element};
-ghost use Rattle.search_dump.specs.Sight.{text_in, ShowsLines};
+ghost use Rattle.text_index.specs.Parts.{part_of};
+ghost use Rattle.text_index.specs.Views.{shown};
 ghost use Rattle.search_dump.specs.Spots.{IsSpot};
 
 use std::alloc::{AllocError, Global};
@@ -33,11 +34,10 @@ pub struct Spot {
 impl Spot {
     /// The line of a place that isn't before this one. The store is asked only where that is another line.
     pub fn line_on<S: TextStore>(self, view: &View<'_, S>, place: usize) -> LineSpan
-        requires view { ShowsLines S.content view.now }
-        requires spot { IsSpot (text_in S.content view.now) self }
+        requires spot { IsSpot (shown (part_of view.now)) self }
         requires behind { self.place ≤ place }
-        requires within { view.now.s + place ≤ view.now.e }
-        ensures { IsSpot (text_in S.content view.now) (record { place = place; line = result }) }
+        requires within { view.now.start + place ≤ view.now.end }
+        ensures { IsSpot (shown (part_of view.now)) (record { place = place; line = result }) }
     {
         view.line_on(self.place, self.line, place)
     }
@@ -60,10 +60,9 @@ pub fn push_place<S: TextStore>(
     view: &View<'_, S>,
     place: usize,
 ) -> Result<(), AllocError>
-    requires view { ShowsLines S.content view.now }
-    requires within { view.now.s + place ≤ view.now.e }
+    requires within { view.now.start + place ≤ view.now.end }
     ensures { OnOk result (Goes (string_bytes list.old) (string_bytes list.new)
-        (position_text (text_in S.content view.now) place ∷ [])) }
+        (position_text (shown (part_of view.now)) place ∷ [])) }
 {
     let line = view.line_at(place);
     push_spot(list, Spot { place, line })

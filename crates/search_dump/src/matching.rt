@@ -5,7 +5,8 @@ ghost use Rattle.std.specs.Prelude.{string_bytes, slice_range, IfOk, IsTrue};
 ghost use Rattle.search_dump.specs.Matches.{compared};
 ghost use Rattle.search_dump.specs.Stretches.{behind_front, beside, front, HasRoom, IsBehind, IsPeriod};
 ghost use Rattle.search_dump.specs.Searched.{nearest_in, HasMatchIn};
-ghost use Rattle.search_dump.specs.Sight.{text_in, ShowsLines};
+ghost use Rattle.text_index.specs.Parts.{part_of};
+ghost use Rattle.text_index.specs.Views.{shown};
 
 use crate::patterns::{Pattern, Period, compared, nearest_place};
 use std::alloc::AllocError;
@@ -121,16 +122,12 @@ fn read<S: TextStore>(
     to: usize,
     ignores_case: bool,
 ) -> Result<String, AllocError>
-    requires view { ShowsLines S.content view.now }
     requires ordered { from ≤ to }
-    requires within { view.now.s + to ≤ view.now.e }
+    requires within { view.now.start + to ≤ view.now.end }
     ensures { IfOk result (λ text. chars (string_bytes text)
-        ≡ compared ignores_case (slice_range (text_in S.content view.now) from to)) }
+        ≡ compared ignores_case (slice_range (shown (part_of view.now)) from to)) }
 {
-    compared(
-        view.store.copy_text(view.s + from, view.s + to)?,
-        ignores_case,
-    )
+    compared(view.copy_text(from, to)?, ignores_case)
 }
 
 /// The match that comes first in a direction, of a stretch that is read at once.
@@ -140,11 +137,10 @@ fn nearest_read<S: TextStore>(
     direction: Direction,
     stretch: Stretch,
 ) -> Result<Option<usize>, AllocError>
-    requires view { ShowsLines S.content view.now }
     requires some { stretch.low < stretch.high }
     requires fits { stretch.high - 1 + pattern.now.len ≤ stretch.end }
-    requires within { stretch.end ≤ length (text_in S.content view.now) }
-    ensures { IfOk result (λ found. found ≡ nearest_in S.content view.now pattern.now direction stretch) }
+    requires within { stretch.end ≤ length (shown (part_of view.now)) }
+    ensures { IfOk result (λ found. found ≡ nearest_in (part_of view.now) pattern.now direction stretch) }
 {
     let text = read(
         view,
@@ -165,9 +161,8 @@ pub fn nearest_match<S: TextStore>(
     direction: Direction,
     stretch: Stretch,
 ) -> Result<Option<usize>, AllocError>
-    requires view { ShowsLines S.content view.now }
-    requires within { stretch.end ≤ length (text_in S.content view.now) }
-    ensures { IfOk result (λ found. found ≡ nearest_in S.content view.now pattern.now direction stretch) }
+    requires within { stretch.end ≤ length (shown (part_of view.now)) }
+    ensures { IfOk result (λ found. found ≡ nearest_in (part_of view.now) pattern.now direction stretch) }
 {
     let mut rest = stretch.before(stretch.behind_last(pattern.len));
     let mut most = FIRST_READ.max(pattern.len);
@@ -191,11 +186,10 @@ fn stands<S: TextStore>(
     to: usize,
     ignores_case: bool,
 ) -> Result<bool, AllocError>
-    requires view { ShowsLines S.content view.now }
     requires ordered { from ≤ to }
-    requires within { view.now.s + to ≤ view.now.e }
+    requires within { view.now.start + to ≤ view.now.end }
     ensures { IfOk result (λ stands. IsTrue stands
-        → slice_range (compared ignores_case (text_in S.content view.now)) from to ≡ chars text.now) }
+        → slice_range (compared ignores_case (shown (part_of view.now))) from to ≡ chars text.now) }
 {
     let found = read(view, from, to, ignores_case)?;
     Ok(found.as_str() == text)
@@ -209,13 +203,12 @@ fn goes_on<S: TextStore>(
     direction: Direction,
     place: usize,
 ) -> Result<bool, AllocError>
-    requires view { ShowsLines S.content view.now }
     requires period { IsPeriod (chars pattern.now.text.now) period.len (chars period.front.now)
         (chars period.tail.now) }
-    requires matches { HasMatchIn S.content view.now pattern.now place }
-    requires room { HasRoom direction (text_in S.content view.now) place pattern.now.len period.len }
+    requires matches { HasMatchIn (part_of view.now) pattern.now place }
+    requires room { HasRoom direction (shown (part_of view.now)) place pattern.now.len period.len }
     ensures { IfOk result (λ goes_on. IsTrue goes_on →
-        HasMatchIn S.content view.now pattern.now (beside direction place period.entry.len)) }
+        HasMatchIn (part_of view.now) pattern.now (beside direction place period.entry.len)) }
 {
     match direction {
         Direction::Forward => {
@@ -248,11 +241,10 @@ pub fn match_beside<S: TextStore>(
     stretch: Stretch,
     place: usize,
 ) -> Result<Option<usize>, AllocError>
-    requires view { ShowsLines S.content view.now }
-    requires within { stretch.end ≤ length (text_in S.content view.now) }
-    requires matches { HasMatchIn S.content view.now pattern.now place }
+    requires within { stretch.end ≤ length (shown (part_of view.now)) }
+    requires matches { HasMatchIn (part_of view.now) pattern.now place }
     requires behind { IsBehind direction stretch place }
-    ensures { IfOk result (λ found. found ≡ nearest_in S.content view.now pattern.now direction stretch) }
+    ensures { IfOk result (λ found. found ≡ nearest_in (part_of view.now) pattern.now direction stretch) }
 {
     let Some(period) = pattern.period else {
         return nearest_match(view, pattern, direction, stretch);

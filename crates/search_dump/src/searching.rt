@@ -4,12 +4,12 @@ ghost use Rattle.std.specs.Prelude.{◌≡◌, ◌≤◌, ◌<◌, ◌+◌, ◌^
 ghost use Rattle.std.specs.Prelude.{IfOk, IfSome, OnOk};
 ghost use Rattle.tcl_words.specs.ListGrowth.{Goes};
 ghost use Rattle.tcl_words.specs.ListText.{list_text};
-ghost use Rattle.text_index.specs.Views.{shown, IsView};
+ghost use Rattle.text_index.specs.Views.{shown};
 ghost use Rattle.search_dump.specs.Matches.{compared, search_result};
 ghost use Rattle.search_dump.specs.Stretches.{first_stretch, left_behind, left_round, left_to_list, next_of};
 ghost use Rattle.search_dump.specs.Stretches.{second_stretch, IsBehind};
 ghost use Rattle.search_dump.specs.Searched.{nearest_in, listed_in, listed_behind, listed_whole, HasMatchIn};
-ghost use Rattle.search_dump.specs.Sight.{text_in, ShowsLines};
+ghost use Rattle.text_index.specs.Parts.{part_of};
 
 use crate::listing::push_place;
 use crate::matching::{Stretch, match_beside, nearest_match};
@@ -119,12 +119,11 @@ fn next_match<S: TextStore>(
     stretch: Stretch,
     place: usize,
 ) -> Result<Option<usize>, AllocError>
-    requires view { ShowsLines S.content view.now }
-    requires within { stretch.end ≤ length (text_in S.content view.now) }
-    requires matches { HasMatchIn S.content view.now pattern.now place }
+    requires within { stretch.end ≤ length (shown (part_of view.now)) }
+    requires matches { HasMatchIn (part_of view.now) pattern.now place }
     requires behind { IsBehind search.direction stretch place }
     ensures { IfOk result (λ next. next ≡ next_of search.wanted
-        (nearest_in S.content view.now pattern.now search.direction stretch)) }
+        (nearest_in (part_of view.now) pattern.now search.direction stretch)) }
 {
     match search.wanted {
         Wanted::First => Ok(None),
@@ -142,12 +141,11 @@ fn list_from<S: TextStore>(
     stretch: Stretch,
     first: Option<usize>,
 ) -> Result<(), AllocError>
-    requires view { ShowsLines S.content view.now }
-    requires high { stretch.high ≤ length (text_in S.content view.now) }
-    requires within { stretch.end ≤ length (text_in S.content view.now) }
-    requires first { first ≡ nearest_in S.content view.now pattern.now search.direction stretch }
+    requires high { stretch.high ≤ length (shown (part_of view.now)) }
+    requires within { stretch.end ≤ length (shown (part_of view.now)) }
+    requires first { first ≡ nearest_in (part_of view.now) pattern.now search.direction stretch }
     ensures { OnOk result (Goes (string_bytes list.old) (string_bytes list.new)
-        (listed_in S.content view.now pattern.now search stretch)) }
+        (listed_in (part_of view.now) pattern.now search stretch)) }
 {
     let mut rest = stretch;
     let mut next = first;
@@ -167,11 +165,10 @@ fn list_stretch<S: TextStore>(
     search: SearchSwitches,
     stretch: Stretch,
 ) -> Result<(), AllocError>
-    requires view { ShowsLines S.content view.now }
-    requires high { stretch.high ≤ length (text_in S.content view.now) }
-    requires within { stretch.end ≤ length (text_in S.content view.now) }
+    requires high { stretch.high ≤ length (shown (part_of view.now)) }
+    requires within { stretch.end ≤ length (shown (part_of view.now)) }
     ensures { OnOk result (Goes (string_bytes list.old) (string_bytes list.new)
-        (listed_in S.content view.now pattern.now search stretch)) }
+        (listed_in (part_of view.now) pattern.now search stretch)) }
 {
     let first = nearest_match(view, pattern, search.direction, stretch)?;
     list_from(list, view, pattern, search, stretch, first)
@@ -186,11 +183,10 @@ fn list_round<S: TextStore>(
     from: usize,
     listed: Option<usize>,
 ) -> Result<(), AllocError>
-    requires view { ShowsLines S.content view.now }
-    requires from { view.now.s + from ≤ view.now.e }
-    requires listed { IfSome listed (λ place. place + pattern.now.len ≤ length (text_in S.content view.now)) }
+    requires from { view.now.start + from ≤ view.now.end }
+    requires listed { IfSome listed (λ place. place + pattern.now.len ≤ length (shown (part_of view.now))) }
     ensures { OnOk result (Goes (string_bytes list.old) (string_bytes list.new)
-        (listed_behind S.content view.now pattern.now search from listed)) }
+        (listed_behind (part_of view.now) pattern.now search from listed)) }
 {
     let whole = search.second_stretch(view.len(), from);
     match search.left_to_list(whole, listed, pattern.len) {
@@ -207,10 +203,9 @@ fn list_round_whole<S: TextStore>(
     search: SearchSwitches,
     from: usize,
 ) -> Result<(), AllocError>
-    requires view { ShowsLines S.content view.now }
-    requires from { view.now.s + from ≤ view.now.e }
+    requires from { view.now.start + from ≤ view.now.end }
     ensures { OnOk result (Goes (string_bytes list.old) (string_bytes list.new)
-        (listed_whole S.content view.now pattern.now search from None)) }
+        (listed_whole (part_of view.now) pattern.now search from None)) }
 {
     let stretch = search.first_stretch(view.len(), from, None);
     let first = nearest_match(view, pattern, search.direction, stretch)?;
@@ -227,11 +222,10 @@ fn list_matches<S: TextStore>(
     from: usize,
     stop: Option<usize>,
 ) -> Result<(), AllocError>
-    requires view { ShowsLines S.content view.now }
-    requires from { view.now.s + from ≤ view.now.e }
-    requires stop { IfSome stop (λ place. view.now.s + place ≤ view.now.e) }
+    requires from { view.now.start + from ≤ view.now.end }
+    requires stop { IfSome stop (λ place. view.now.start + place ≤ view.now.end) }
     ensures { OnOk result (Goes (string_bytes list.old) (string_bytes list.new)
-        (listed_whole S.content view.now pattern.now search from stop)) }
+        (listed_whole (part_of view.now) pattern.now search from stop)) }
 {
     match stop {
         None => list_round_whole(list, view, pattern, search, from),
@@ -254,12 +248,11 @@ pub fn search<S: TextStore>(
     from: usize,
     stop: Option<usize>,
 ) -> Result<String, AllocError>
-    requires view { IsView (S.content view.now.store.now) view.now.s view.now.e }
-    requires from { view.now.s + from ≤ view.now.e }
-    requires stop { IfSome stop (λ place. view.now.s + place ≤ view.now.e) }
+    requires from { view.now.start + from ≤ view.now.end }
+    requires stop { IfSome stop (λ place. view.now.start + place ≤ view.now.end) }
     ensures { IfOk result (λ answer. string_bytes answer ≡ encode_utf8_all (list_text
         (search_result search (chars pattern.now) (shown
-        (S.content view.now.store.now) view.now.s view.now.e) from stop))) }
+        (part_of view.now)) from stop))) }
 {
     let pattern = compared(String::from_str(alloc, pattern)?, search.ignores_case)?;
     let pattern = Pattern::new(pattern.as_str(), search.ignores_case);

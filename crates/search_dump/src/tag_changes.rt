@@ -7,11 +7,13 @@ ghost use Rattle.text_index.specs.Views.{shown_flags};
 ghost use Rattle.text_model.specs.Steps.{set_slot};
 ghost use Rattle.text_model.specs.TagBits.{slot_count};
 ghost use Rattle.text_model.specs.declared.limits.TheConstants.Limits.{MOST_WIDGETS};
-ghost use Rattle.search_dump.specs.Ahead.{slot_of_row, AreKept, AreTurned, IsNearest, IsTurned};
+ghost use Rattle.search_dump.specs.Ahead.{slot_of_row, AreAhead, AreKept, IsKnown, AreTurned, IsNearest, IsTurned};
 ghost use Rattle.search_dump.specs.Dump.{flag_before, own_slot};
-ghost use Rattle.search_dump.specs.Sight.{AreChangesAhead, IsChangeKnown, ShowsLines};
+ghost use Rattle.search_dump.specs.Sights.{outlook};
+ghost use Rattle.text_index.specs.Parts.{part_of};
 ghost use Rattle.search_dump.specs.Turns.{AreBehind};
 
+use crate::sights::Sight;
 use crate::turns::{Rows, Turn};
 use std::alloc::{AllocError, Global};
 use text_index::{Names, View, change_after};
@@ -32,30 +34,28 @@ pub fn own_slot(names: &Names<'_>, at: usize) -> TagSlot
 
 /// The tags of the character before a place of the view; none before the first.
 pub fn tags_left_of<S: TextStore>(view: &View<'_, S>, place: usize) -> TagSet
-    requires view { ShowsLines S.content view.now }
-    requires within { view.now.s + place ≤ view.now.e }
+    requires within { view.now.start + place ≤ view.now.end }
     ensures { (slot : ℕ) →
         set.contains result slot ≡ flag_before (shown_flags slot
-        (S.content view.now.store.now) view.now.s view.now.e) place }
+        (part_of view.now)) place }
 {
     if place == 0 {
         return TagSet::empty();
     }
-    view.store.tags_at(view.s + (place - 1))
+    view.store.tags_at(view.start + (place - 1))
 }
 
 /// The tags of the character at a place of the view; none at the end.
 pub fn tags_at<S: TextStore>(view: &View<'_, S>, place: usize) -> TagSet
-    requires view { ShowsLines S.content view.now }
-    requires within { view.now.s + place ≤ view.now.e }
+    requires within { view.now.start + place ≤ view.now.end }
     ensures { (slot : ℕ) →
         set.contains result slot ≡ flag_at (shown_flags slot
-        (S.content view.now.store.now) view.now.s view.now.e) place }
+        (part_of view.now)) place }
 {
     if place == view.len() {
         return TagSet::empty();
     }
-    view.store.tags_at(view.s + place)
+    view.store.tags_at(view.start + place)
 }
 
 /// Puts a slot into a set, or takes it out.
@@ -88,44 +88,36 @@ impl TagChanges {
     }
 
     /// Knows where the tag at a place of the table changes next behind a place of the view, before its end.
-    fn look<S: TextStore>(&mut self, view: &View<'_, S>, names: &Names<'_>, at: usize, place: usize)
-        requires view { ShowsLines S.content view.now }
-        requires widget { names.now.widget.0 < MOST_WIDGETS }
-        requires row { at < length names.now.tags.now.tags }
-        requires within { view.now.s + place < view.now.e }
-        requires ahead { AreChangesAhead S.content view.now names.now place self.old.next.items }
-        ensures known { IsChangeKnown S.content view.now names.now place self.new.next.items at }
-        ensures keeps { (other : ℕ) → IsChangeKnown S.content view.now names.now place self.old.next.items other
-            → IsChangeKnown S.content view.now names.now place self.new.next.items other }
-        ensures ahead { AreChangesAhead S.content view.now names.now place self.new.next.items }
+    fn look<S: TextStore>(&mut self, sight: &Sight<'_, S>, at: usize, place: usize)
+        requires widget { sight.now.names.now.widget.0 < MOST_WIDGETS }
+        requires row { at < length sight.now.names.now.tags.now.tags }
+        requires within { sight.now.view.now.start + place < sight.now.view.now.end }
+        requires ahead { AreAhead (outlook sight.now) place self.old.next.items }
+        ensures known { IsKnown (outlook sight.now) place self.new.next.items at }
+        ensures keeps { (other : ℕ) → IsKnown (outlook sight.now) place self.old.next.items other
+            → IsKnown (outlook sight.now) place self.new.next.items other }
+        ensures ahead { AreAhead (outlook sight.now) place self.new.next.items }
     {
         if place < self.next[at] {
             return;
         }
-        self.next[at] = change_after(view, own_slot(names, at), place);
+        self.next[at] = change_after(sight.view, own_slot(sight.names, at), place);
     }
 
     /// Knows where each tag changes next behind a place of the view, before its end, where that is known already of all
     /// rows of the table but some.
-    pub fn pass<S: TextStore>(
-        &mut self,
-        view: &View<'_, S>,
-        names: &Names<'_>,
-        rows: Rows,
-        place: usize,
-    )
-        requires view { ShowsLines S.content view.now }
-        requires widget { names.now.widget.0 < MOST_WIDGETS }
-        requires within { view.now.s + place < view.now.e }
-        requires rows { rows.end ≤ length names.now.tags.now.tags }
-        requires ahead { AreChangesAhead S.content view.now names.now place self.old.next.items }
-        requires apart { AreBehind rows self.old.next.items (length names.now.tags.now.tags) place }
-        ensures known { (at : ℕ) → at < length names.now.tags.now.tags →
-            IsChangeKnown S.content view.now names.now place self.new.next.items at }
-        ensures ahead { AreChangesAhead S.content view.now names.now place self.new.next.items }
+    pub fn pass<S: TextStore>(&mut self, sight: &Sight<'_, S>, rows: Rows, place: usize)
+        requires widget { sight.now.names.now.widget.0 < MOST_WIDGETS }
+        requires within { sight.now.view.now.start + place < sight.now.view.now.end }
+        requires rows { rows.end ≤ length sight.now.names.now.tags.now.tags }
+        requires ahead { AreAhead (outlook sight.now) place self.old.next.items }
+        requires apart { AreBehind rows self.old.next.items (length sight.now.names.now.tags.now.tags) place }
+        ensures known { (at : ℕ) → at < length sight.now.names.now.tags.now.tags →
+            IsKnown (outlook sight.now) place self.new.next.items at }
+        ensures ahead { AreAhead (outlook sight.now) place self.new.next.items }
     {
         for at in rows.first..rows.end {
-            self.look(view, names, at, place);
+            self.look(sight, at, place);
         }
     }
 

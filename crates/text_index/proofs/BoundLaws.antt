@@ -1,21 +1,21 @@
 -- No index stands for a place behind the end, and numbers up to the greatest that a machine has stand for every place.
-use Rattle.text_index.proofs.Common.{◌≡◌, ◌≢◌, ℕ, zero, suc, ◌+◌, ◌-◌, ◌<◌, ◌≤◌, min, Bool, true, false, not, List, []}
-use Rattle.text_index.proofs.Common.{◌∷◌, length, map, take, drop, refl, sym, ap, ◌∙◌, arith, length-drop, Option}
-use Rattle.text_index.proofs.Common.{Result, Ok, Err, option_and_then, nat_lt, nat_le, ◌&&◌, ◌==◌, slice_index}
+use Rattle.text_index.proofs.Common.{Part, ◌≡◌, ◌≢◌, ℕ, zero, suc, ◌+◌, ◌-◌, ◌<◌, ◌≤◌, min, Bool, true, false, not}
+use Rattle.text_index.proofs.Common.{List, [], ◌∷◌, length, map, take, drop, refl, sym, ap, ◌∙◌, arith, length-drop}
+use Rattle.text_index.proofs.Common.{Option, Result, Ok, Err, option_and_then, nat_lt, nat_le, ◌&&◌, ◌==◌, slice_index}
 use Rattle.text_index.proofs.Common.{if◌then◌else◌, prefix_len, suffix_len, false≢true, nat_tests, Decides-eqb}
 use Rattle.text_index.proofs.Common.{length-take-le, prefix_len-le-length, lines, line_of, line_start-le}
-use Rattle.text_index.proofs.Common.{lines-le-length, Content, flags, IsView, shown, own_place, shared_place}
-use Rattle.text_index.proofs.Common.{shown_mark, saturated_base, saturated_modifier, WholeIndex, newline_of, in_line}
-use Rattle.text_index.proofs.Common.{column_of, on_line, line_value, unless_end, lines_back, word_front, word_behind}
-use Rattle.text_index.proofs.Common.{word_end, modified, modified_by, or_fault, first_tagged, last_tagged, base_value}
+use Rattle.text_index.proofs.Common.{lines-le-length, flags, IsView, shown, own_place, shared_place, shown_mark}
+use Rattle.text_index.proofs.Common.{saturated_base, saturated_modifier, WholeIndex, newline_of, in_line, column_of}
+use Rattle.text_index.proofs.Common.{on_line, line_value, unless_end, lines_back, word_front, word_behind, word_end}
+use Rattle.text_index.proofs.Common.{modified, modified_by, or_fault, first_tagged, last_tagged, base_value}
 use Rattle.text_index.proofs.Common.{then_modified, index_value, Meanings, AreWithin, value_of, shown_meanings}
 use Rattle.text_index.proofs.Common.{IndexFault, BadIndex, Base, Some, None}
+use Rattle.text_index.proofs.FlagLaws.{length-shown_flags}
 use Rattle.std.proofs.lemmas.List.Quantifiers.{position-Some}
 use Rattle.text_model.specs.declared.places.Place.{Place}
 use Rattle.mark_table.specs.SharedMarks.{Mark, first_number}
 use Rattle.tag_table.specs.Tags.{Tag}
 use Rattle.text_index.proofs.ViewLaws.{length-shown}
-use Rattle.text_index.proofs.FlagLaws.{length-part, flags-within}
 use Rattle.index_grammar.specs.Steps.{saturated_index}
 use Rattle.index_grammar.specs.declared.indices.Modifier.{Modifier}
 use Rattle.index_grammar.specs.declared.indices.Unit.TheVariants.{Characters, Lines}
@@ -296,10 +296,11 @@ shared-within start end place found is =
           ] refl
     ] is
 
-mark-within : (content : Content) (start end number found : ℕ) → shown_mark content start end number ≡ Some found →
-    found ≤ end - start
-mark-within content start end number found is =
-    elim (finite.get content.marks number) as (λ o.
+mark-within : (part : Part) (number found : ℕ) → shown_mark part number ≡ Some found → found ≤ part.end - part.start
+mark-within part number found is =
+    let start = part.start in
+    let end = part.end in
+    elim (finite.get part.content.marks number) as (λ o.
     option_and_then (λ place. if nat_lt number first_number then Some (own_place start end place)
     else shared_place start end place) o ≡ Some found → found ≤ end - start) [
       | None ↦ λ none. absurd (let h : None ≡ Some found = none in cc)
@@ -312,16 +313,11 @@ mark-within content start end number found is =
           ]
     ] is
 
-pub shown-within : (marks : List Mark) (tags : List Tag) (widget : ℕ) (content : Content) (start end : ℕ) →
-    IsView content start end
-    → AreWithin (shown_meanings marks tags widget content start end) (shown content start end)
-shown-within marks tags widget content start end view =
-    let long = length-shown content start end view in
+pub shown-within : (marks : List Mark) (tags : List Tag) (widget : ℕ) (part : Part) → IsView part
+    → AreWithin (shown_meanings marks tags widget part) (shown part)
+shown-within marks tags widget part view =
+    let long = length-shown part view in
     record {
-      places = λ number place is. omega (arith, mark-within content start end number place is);
-      flags = λ slot. omega (
-        arith,
-        length-part (flags slot content.cells) start end
-            (flags-within content slot start end view) view.ordered,
-      );
+      places = λ number place is. omega (arith, mark-within part number place is);
+      flags = λ slot. omega (arith, length-shown_flags part slot view);
     }

@@ -23,17 +23,18 @@ pub use Rattle.std.specs.Prelude.{if◌then◌else◌, IfOk, IfSome, IsAscii, Is
 pub use Rattle.std.specs.Prelude.{encode_utf8_all, filter, find, nat_eq, nat_le, option_and_then, option_map, position}
 pub use Rattle.std.specs.Prelude.{reverse, slice_get, slice_index, slice_range, string_bytes}
 pub use Rattle.text_index.specs.Meanings.{AreWithin, MeanTheSame, Meanings, shown_meanings, value_of, word_value}
+pub use Rattle.text_index.specs.Parts.{part_of}
 pub use Rattle.text_index.specs.Ranges.{and_later, begins, begins_before, begins_from, is_set, next_range}
 pub use Rattle.text_index.specs.Ranges.{previous_range, ranges_behind, ranges_from, tag_ranges}
 pub use Rattle.text_index.specs.Values.{base_value, column_of, first_tagged, in_line, index_value, last_tagged}
 pub use Rattle.text_index.specs.Values.{line_value, lines_back, lines_on, modified, modified_by, newline_of, on_line}
 pub use Rattle.text_index.specs.Values.{or_fault, then_modified, unless_end, word_behind, word_end, word_front}
-pub use Rattle.text_index.specs.Views.{IsView, own_place, shared_place, shown, shown_flags, shown_mark}
+pub use Rattle.text_index.specs.Views.{IsView, Part, own_place, shared_place, shown, shown_flags, shown_mark}
 pub use Rattle.text_index.specs.Words.{is_word}
 pub use Rattle.text_index.specs.declared.ranges.TagRange.{TagRange}
 pub use Rattle.text_model.proofs.LineLaws.{line_start-le, line_start-rises, lines-append, lines-cons, lines-le-length}
 pub use Rattle.text_model.specs.Changes.{flag_at, is_alike, next_change, previous_change}
-pub use Rattle.text_model.specs.Content.{Content, characters, flags}
+pub use Rattle.text_model.specs.Content.{characters, flags}
 pub use Rattle.text_model.specs.Lines.{IsLineOf, IsLineStart, is_newline, line_of, line_start, lines}
 pub use Rattle.text_model.specs.declared.cells.Cell.{Cell}
 pub use Rattle.text_model.specs.declared.places.LineSpan.{LineSpan}

@@ -1,12 +1,12 @@
 -- Where flags change, and what that is in a part of a list of flags.
-use Rattle.text_index.proofs.Common.{◌≡◌, ℕ, zero, suc, ◌+◌, ◌-◌, ◌<◌, ◌≤◌, min, max, Bool, true, false, cond, not}
-use Rattle.text_index.proofs.Common.{List, [], ◌∷◌, ◌++◌, length, take, drop, get_or, None, Some, refl, sym, ap, ap₂}
-use Rattle.text_index.proofs.Common.{◌∙◌, arith, lt-ltb, le-ltb, length-drop, reverse, slice_range, slice_get, nat_lt}
-use Rattle.text_index.proofs.Common.{if◌then◌else◌, prefix_len, suffix_len, take-append-drop, take-take, drop-take}
-use Rattle.text_index.proofs.Common.{drop-drop, reverse-append, length-reverse, length-take-le, get_or-take}
-use Rattle.text_index.proofs.Common.{get_or-drop, get_or-reverse, length-map, prefix_len_passes, prefix_len_stops}
-use Rattle.text_index.proofs.Common.{prefix_len-le-length, suffix_len-le-length, ltb-true, ltb-false, is_alike, flag_at}
-use Rattle.text_index.proofs.Common.{next_change, previous_change, Cell, Content, flags, IsView, first_tagged}
+use Rattle.text_index.proofs.Common.{Part, shown_flags, ◌≡◌, ℕ, zero, suc, ◌+◌, ◌-◌, ◌<◌, ◌≤◌, min, max, Bool, true}
+use Rattle.text_index.proofs.Common.{false, cond, not, List, [], ◌∷◌, ◌++◌, length, take, drop, get_or, None, Some}
+use Rattle.text_index.proofs.Common.{refl, sym, ap, ap₂, ◌∙◌, arith, lt-ltb, le-ltb, length-drop, reverse, slice_range}
+use Rattle.text_index.proofs.Common.{slice_get, nat_lt, if◌then◌else◌, prefix_len, suffix_len, take-append-drop}
+use Rattle.text_index.proofs.Common.{take-take, drop-take, drop-drop, reverse-append, length-reverse, length-take-le}
+use Rattle.text_index.proofs.Common.{get_or-take, get_or-drop, get_or-reverse, length-map, prefix_len_passes}
+use Rattle.text_index.proofs.Common.{prefix_len_stops, prefix_len-le-length, suffix_len-le-length, ltb-true, ltb-false}
+use Rattle.text_index.proofs.Common.{is_alike, flag_at, next_change, previous_change, Cell, flags, IsView, first_tagged}
 use Rattle.text_index.proofs.Common.{last_tagged}
 use Rattle.std.proofs.lemmas.Option.{get_or_from_slice_get}
 use Rattle.std.specs.FinSet as set
@@ -265,12 +265,15 @@ last-unset flags is k below =
     ] refl
 
 -- a view's end is within the flags of a slot
-pub flags-within : (content : Content) (slot start end : ℕ) → IsView content start end →
-    end ≤ length (flags slot content.cells)
-flags-within content slot start end view =
+pub flags-within : (part : Part) (slot : ℕ) → IsView part → part.end ≤ length (flags slot part.content.cells)
+flags-within part slot view =
     omega (
       arith,
       view.behind.within,
-      length-map content.cells (λ (cell : Cell). cell.character),
-      length-map content.cells (λ (cell : Cell). set.contains cell.tags slot),
+      length-map part.content.cells (λ (cell : Cell). cell.character),
+      length-map part.content.cells (λ (cell : Cell). set.contains cell.tags slot),
     )
+
+pub length-shown_flags : (part : Part) (slot : ℕ) → IsView part → length (shown_flags slot part) ≡ part.end - part.start
+length-shown_flags part slot view =
+    length-part (flags slot part.content.cells) part.start part.end (flags-within part slot view) view.ordered

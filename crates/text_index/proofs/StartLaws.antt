@@ -1,7 +1,7 @@
 -- Where the lines of a view begin, by those of the text, and which lines it has.
-use Rattle.text_index.proofs.Common.{◌≡◌, ℕ, suc, inl, inr, ◌+◌, ◌-◌, ◌<◌, ◌≤◌, true, false, min, List, Some, length}
-use Rattle.text_index.proofs.Common.{refl, ap, sym, ◌∙◌, arith, nat_lt, if◌then◌else◌, cases_lt, nat_tests, in_line}
-use Rattle.text_index.proofs.Common.{line_value, Content, characters, shown, IsView, IsLineOf, lines, line_of}
+use Rattle.text_index.proofs.Common.{Part, ◌≡◌, ℕ, suc, inl, inr, ◌+◌, ◌-◌, ◌<◌, ◌≤◌, true, false, min, List, Some}
+use Rattle.text_index.proofs.Common.{length, refl, ap, sym, ◌∙◌, arith, nat_lt, if◌then◌else◌, cases_lt, nat_tests}
+use Rattle.text_index.proofs.Common.{in_line, line_value, characters, shown, IsView, IsLineOf, lines, line_of}
 use Rattle.text_index.proofs.Common.{line_start, line_start-le, line_start-rises, LineSpan}
 use Rattle.text_index.proofs.ViewLaws.{before-end, length-shown, line_of-within, line_start-add, line_start-before}
 use Rattle.text_index.proofs.ViewLaws.{lines-of-part, lines-part, start-part}
@@ -24,31 +24,37 @@ none-on text line character start past over is =
       | false ↦ λ behind. omega (arith, is, past over)
     ] refl
 
-module _ {content : Content} {start end : ℕ} (view : IsView content start end) where
+module _ {part : Part} (view : IsView part) where
+  abbrev start : ℕ
+  start = part.start
+
+  abbrev end : ℕ
+  end = part.end
+
   abbrev text : List ℕ
-  text = characters content.cells
+  text = characters part.content.cells
 
-  abbrev part : List ℕ
-  part = shown content start end
+  abbrev visible : List ℕ
+  visible = shown part
 
-  long : length part ≡ end - start
-  long = length-shown content start end view
+  long : length visible ≡ end - start
+  long = length-shown part view
 
-  total : line_of text start + lines part ≡ line_of text end
+  total : line_of text start + lines visible ≡ line_of text end
   total = lines-of-part text start end view.ordered
 
-  pub past-start : (line : ℕ) → lines part ≤ line → line_start line part ≡ end - start
+  pub past-start : (line : ℕ) → lines visible ≤ line → line_start line visible ≡ end - start
   past-start line past =
-      let all = start-part text start end (lines part) view.first (omega arith) in
+      let all = start-part text start end (lines visible) view.first (omega arith) in
       let same = ap (λ k. line_start k text) total in
-      omega (arith, all, same, view.behind.begins, later-start part (lines part) line past, line_start-le part line, long)
+      omega (arith, all, same, view.behind.begins, later-start visible (lines visible) line past, line_start-le visible line, long)
 
-  start-shown : (line : ℕ) → line_start line part ≡ min (line_start (line_of text start + line) text) end - start
+  start-shown : (line : ℕ) → line_start line visible ≡ min (line_start (line_of text start + line) text) end - start
   start-shown line =
-      elim (cases_lt line (lines part)) [
+      elim (cases_lt line (lines visible)) [
         | inl before ↦
             let there = start-part text start end line view.first (omega (arith, before)) in
-            omega (arith, there, line_start-le part line, long, view.ordered)
+            omega (arith, there, line_start-le visible line, long, view.ordered)
         | inr past ↦
             let later = later-start text (line_of text end) (line_of text start + line) (omega (arith, total, past)) in
             omega (arith, past-start line (omega (arith, past)), later, view.behind.begins, view.ordered)
@@ -61,46 +67,46 @@ module _ {content : Content} {start end : ℕ} (view : IsView content start end)
   -- ---- the line of a place, by that of the text
   module _ (place : ℕ) (line : LineSpan) (is : IsLineOf text (start + place) line) where
     pub place-start : start + place ≤ end → (start ≤ line.start) × (line.start ≤ start + place)
-        × (line.start - start ≡ line_start (line_of part place) part)
+        × (line.start - start ≡ line_start (line_of visible place) visible)
     place-start within =
         let number = lines-part text start end place within in
         let same = ap (λ k. line_start k text) number in
         let there = is.start ∙ ap (λ k. line_start k text) is.number in
         let before = line_start-before text (start + place) (omega (arith, view.behind.within, within)) in (
-          omega (arith, there, start-after (line_of part place), same),
+          omega (arith, there, start-after (line_of visible place), same),
           omega (arith, there, before),
-          omega (arith, there, start-shown (line_of part place), same, before, within),
+          omega (arith, there, start-shown (line_of visible place), same, before, within),
         )
 
     -- where the one behind it begins
-    behind-is : start + place ≤ end → line.end ≡ line_start (line_of text start + (line_of part place + 1)) text
+    behind-is : start + place ≤ end → line.end ≡ line_start (line_of text start + (line_of visible place + 1)) text
     behind-is within =
-        let there : line.number + 1 ≡ line_of text start + (line_of part place + 1) =
+        let there : line.number + 1 ≡ line_of text start + (line_of visible place + 1) =
         omega (arith, is.number, lines-part text start end place within) in
         is.end ∙ ap (λ k. line_start k text) there
 
     pub place-ends : start + place ≤ end → start ≤ min line.end end
     place-ends within =
-        omega (arith, behind-is within, start-after (line_of part place + 1), view.ordered)
+        omega (arith, behind-is within, start-after (line_of visible place + 1), view.ordered)
 
-    pub line-shown : start + place ≤ end → IsLineOf part place (record {
+    pub line-shown : start + place ≤ end → IsLineOf visible place (record {
       number = line.number - line_of text start;
       start = line.start - start;
       end = min line.end end - start;
     })
     line-shown within =
-        let here : line.number - line_of text start ≡ line_of part place =
+        let here : line.number - line_of text start ≡ line_of visible place =
         omega (arith, is.number, lines-part text start end place within) in
         record {
           number = here;
-          start = (place-start within).2 ∙ ap (λ k. line_start k part) (sym here);
+          start = (place-start within).2 ∙ ap (λ k. line_start k visible) (sym here);
           end =
               ap (λ n. min n end - start) (behind-is within)
-              ∙ sym (start-shown (line_of part place + 1)) ∙ ap (λ k. line_start (k + 1) part) (sym here);
+              ∙ sym (start-shown (line_of visible place + 1)) ∙ ap (λ k. line_start (k + 1) visible) (sym here);
         }
 
     pub place-behind : start + place < end
-        → (start < line.end) × (line.end ≤ end) × (line.end - start ≡ line_start (line_of part place + 1) part)
+        → (start < line.end) × (line.end ≤ end) × (line.end - start ≡ line_start (line_of visible place + 1) visible)
     place-behind within =
         let inside : start + place ≤ end = omega (arith, within) in
         let before = before-end text (start + place) end view.behind within in
@@ -111,7 +117,7 @@ module _ {content : Content} {start end : ℕ} (view : IsView content start end)
         let first = is.start ∙ ap (λ k. line_start k text) is.number in (
           omega (arith, (place-start inside).0, first, line_start-rises text (line_of text (start + place)) known, there),
           omega (arith, there, ends, view.behind.begins),
-          omega (arith, start-shown (line_of part place + 1), behind-is inside, there, ends, view.behind.begins),
+          omega (arith, start-shown (line_of visible place + 1), behind-is inside, there, ends, view.behind.begins),
         )
 
   -- ---- a line by its number in the text, which has that line
@@ -130,9 +136,9 @@ module _ {content : Content} {start end : ℕ} (view : IsView content start end)
   -- one that the text hasn't
   pub none-shown : (line : ℕ) {first number count : ℕ} → first ≡ line_of text start
       → number ≡ min (first + line) 18446744073709551615 → count ≡ lines text → count ≤ number
-      → (lines part ≤ line) × (line_start line part ≡ end - start)
+      → (lines visible ≤ line) × (line_start line visible ≡ end - start)
   none-shown line first_is number_is count_is past =
-      let few : lines part ≤ line =
+      let few : lines visible ≤ line =
       omega (arith, total, line_of-within text end, first_is, number_is, count_is, past) in
       (few, past-start line few)
 
@@ -143,7 +149,7 @@ module _ {content : Content} {start end : ℕ} (view : IsView content start end)
     pub begins-after : start ≤ first
     begins-after = omega (arith, here, start-after line)
 
-    pub begins-at : min first end - start ≡ line_start line part
+    pub begins-at : min first end - start ≡ line_start line visible
     begins-at = omega (arith, here, start-shown line)
 
   module _ {line number behind : ℕ} (numbered : IsNumber line number) (behind_is : behind ≡ line_start (number + 1) text)
@@ -157,12 +163,12 @@ module _ {content : Content} {start end : ℕ} (view : IsView content start end)
       ends-after = omega (arith, there, start-after (suc line))
 
       -- its end stands behind the end of the view
-      pub ends-behind : end < behind → lines part ≤ line
+      pub ends-behind : end < behind → lines visible ≤ line
       ends-behind past =
-          elim (cases_lt line (lines part)) [
+          elim (cases_lt line (lines visible)) [
             | inl before ↦
                 let shown = start-part text start end (suc line) view.first (omega (arith, before)) in
-                absurd (omega (arith, shown, there, line_start-le part (suc line), long, past, view.ordered))
+                absurd (omega (arith, shown, there, line_start-le visible (suc line), long, past, view.ordered))
             | inr past-last ↦ omega (arith, past-last)
           ]
 
@@ -174,10 +180,10 @@ module _ {content : Content} {start end : ℕ} (view : IsView content start end)
           omega (arith, more, there, ap (λ k. line_start k text) same)
 
       -- or within it
-      pub ends-within : behind ≤ end → (line < lines part) × (behind - start ≡ line_start (suc line) part)
+      pub ends-within : behind ≤ end → (line < lines visible) × (behind - start ≡ line_start (suc line) visible)
       ends-within within =
-          let has : line < lines part =
-          elim (cases_lt line (lines part)) [
+          let has : line < lines visible =
+          elim (cases_lt line (lines visible)) [
             | inl before ↦ before
             | inr past ↦
                 let later = later-start text (line_of text end) (line_of text start + line) (omega (arith, total, past)) in
@@ -186,6 +192,6 @@ module _ {content : Content} {start end : ℕ} (view : IsView content start end)
           (has, omega (arith, start-part text start end (suc line) view.first (omega (arith, has)), there))
 
       -- so it begins within it too
-      pub start-within : {first : ℕ} → first ≡ line_start number text → behind ≤ end → first - start ≡ line_start line part
+      pub start-within : {first : ℕ} → first ≡ line_start number text → behind ≤ end → first - start ≡ line_start line visible
       start-within first_is within =
           omega (arith, here numbered first_is, start-shown line, rises, within)

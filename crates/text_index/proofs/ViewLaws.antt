@@ -1,9 +1,10 @@
 -- Lines of the part of a text that a view shows, by those of the text.
-use Rattle.text_index.proofs.Common.{◌≡◌, ℕ, zero, suc, ◌+◌, ◌-◌, ◌<◌, ◌≤◌, min, true, false, cond, List, [], ◌∷◌, ◌++◌}
-use Rattle.text_index.proofs.Common.{length, take, drop, refl, sym, ap, ap₂, ◌∙◌, arith, ne_eqb, length-drop}
-use Rattle.text_index.proofs.Common.{slice_range, if◌then◌else◌, take-take, take-append-drop, length-take-le}
-use Rattle.text_index.proofs.Common.{IsLineStart, is_newline, lines, line_of, line_start, lines-cons, lines-append}
-use Rattle.text_index.proofs.Common.{Content, characters, IsView, shown, in_line, column_of, lines_on}
+use Rattle.text_index.proofs.Common.{drop-take, drop-drop, Part, ◌≡◌, ℕ, zero, suc, ◌+◌, ◌-◌, ◌<◌, ◌≤◌, min, true}
+use Rattle.text_index.proofs.Common.{false, cond, List, [], ◌∷◌, ◌++◌, length, take, drop, refl, sym, ap, ap₂, ◌∙◌}
+use Rattle.text_index.proofs.Common.{arith, ne_eqb, length-drop, slice_range, if◌then◌else◌, take-take}
+use Rattle.text_index.proofs.Common.{take-append-drop, length-take-le, IsLineStart, is_newline, lines, line_of}
+use Rattle.text_index.proofs.Common.{line_start, lines-cons, lines-append, characters, IsView, shown, in_line}
+use Rattle.text_index.proofs.Common.{column_of, lines_on}
 
 line_start-nil : (line : ℕ) → line_start line [] ≡ 0
 line_start-nil zero = refl
@@ -133,12 +134,22 @@ some-line text start end first behind some =
       | suc n ↦ λ _. omega arith
     ] total
 
-pub length-shown : (content : Content) (start end : ℕ) → IsView content start end →
-    length (shown content start end) ≡ end - start
-length-shown content start end view =
-    let text = characters content.cells in
-    length-take-le (end - start) (drop start text)
-    (omega (arith, length-drop start text, view.behind.within, view.ordered))
+pub length-shown : (part : Part) → IsView part → length (shown part) ≡ part.end - part.start
+length-shown part view =
+    let text = characters part.content.cells in
+    length-take-le (part.end - part.start) (drop part.start text)
+    (omega (arith, length-drop part.start text, view.behind.within, view.ordered))
+
+-- a part of a part
+pub slice-part : {A : Type 0} (xs : List A) (start end from to : ℕ) → from ≤ to → start + to ≤ end
+    → slice_range (slice_range xs start end) from to ≡ slice_range xs (start + from) (start + to)
+slice-part xs start end from to ordered within =
+    ap (λ n. take (to - from) (drop from (take n (drop start xs)))) (let e : end - start
+    ≡ from + (end - start - from) = omega arith in e)
+    ∙ ap (take (to - from)) (drop-take from (end - start - from) (drop start xs))
+    ∙ take-take (to - from) (end - start - from) (drop from (drop start xs)) (omega arith)
+    ∙ ap (take (to - from)) (drop-drop from start xs)
+    ∙ ap (λ n. take n (drop (start + from) xs)) (omega arith)
 
 -- a place that isn't the end goes on by lines
 pub lines_on-is : (text : List ℕ) (count place at column result : ℕ) → (place ≡ length text → ⊥) →

@@ -1,4 +1,5 @@
 pub mod Meanings
+pub mod Parts
 pub mod Positions
 pub mod Ranges
 pub mod Values

@@ -1,10 +1,9 @@
 -- The place that a word stands for, by what the names in it mean (text(n), "INDICES").
 use Rattle.std.specs.Prelude.{◌≡◌, ◌≤◌, ℕ, Bool, List, length, Option, None, Some, option_map, Result, Err}
-use Rattle.text_model.specs.Content.{Content}
 use Rattle.mark_table.specs.SharedMarks.{Mark}
 use Rattle.tag_table.specs.Tags.{Tag}
 use Rattle.index_grammar.specs.Names.{known_marks, known_tags}
-use Rattle.text_index.specs.Views.{shown_mark, shown_flags}
+use Rattle.text_index.specs.Views.{Part, shown_mark, shown_flags}
 use Rattle.index_grammar.specs.Grammar.{index_of, WholeIndex}
 use Rattle.text_index.specs.Values.{index_value}
 use Rattle.index_grammar.specs.declared.faults.IndexFault.{IndexFault}
@@ -37,10 +36,10 @@ pub record MeanTheSame (one other : Meanings) : Type 0 where
   pub tags : (name : List ℕ) → option_map one.flags (one.tags name) ≡ option_map other.flags (other.tags name)
 
 -- what the names of a document's tables, and a widget's own, mean to a view of its text
-abbrev pub shown_meanings : List Mark → List Tag → ℕ → Content → ℕ → ℕ → Meanings
-shown_meanings marks tags widget content start end = record {
+abbrev pub shown_meanings : List Mark → List Tag → ℕ → Part → Meanings
+shown_meanings marks tags widget part = record {
   marks = known_marks marks widget;
-  places = shown_mark content start end;
+  places = shown_mark part;
   tags = known_tags tags widget;
-  flags = λ slot. shown_flags slot content start end;
+  flags = λ slot. shown_flags slot part;
 }

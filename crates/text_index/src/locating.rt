@@ -2,7 +2,8 @@
 
 ghost use Rattle.std.specs.Prelude.{◌≡◌, ◌≢◌, ◌≤◌, ◌<◌, ◌+◌, length, chars, IfOk};
 ghost use Rattle.text_model.specs.declared.limits.TheConstants.Limits.{MOST_WIDGETS};
-ghost use Rattle.text_index.specs.Views.{shown, IsView};
+ghost use Rattle.text_index.specs.Parts.{part_of};
+ghost use Rattle.text_index.specs.Views.{shown};
 ghost use Rattle.text_index.specs.Words.{is_word};
 ghost use Rattle.text_index.specs.Meanings.{shown_meanings, word_value};
 ghost use Rattle.index_grammar.specs.declared.faults.IndexFault.TheVariants.{Memory};
@@ -24,13 +25,12 @@ pub fn locate<S: TextStore>(
     view: &View<'_, S>,
 ) -> Result<usize, IndexFault>
     requires widget { names.now.widget.0 < MOST_WIDGETS }
-    requires view { IsView (S.content view.now.store.now) view.now.s view.now.e }
     requires room { length (S.content view.now.store.now).cells < usize.MAX }
     ensures value { result ≢ Err Memory → result ≡ word_value is_word
         (shown_meanings names.now.marks.now.marks names.now.tags.now.tags names.now.widget.0
-        (S.content view.now.store.now) view.now.s view.now.e)
-        (shown (S.content view.now.store.now) view.now.s view.now.e) (chars word.now) }
-    ensures within { IfOk result (λ place. view.now.s + place ≤ view.now.e) }
+        (part_of view.now))
+        (shown (part_of view.now)) (chars word.now) }
+    ensures within { IfOk result (λ place. view.now.start + place ≤ view.now.end) }
 {
     let index = parse(alloc, word, names)?;
     resolve(&index, view)

@@ -3,7 +3,8 @@
 ghost use Rattle.std.specs.Prelude.{◌≡◌, ◌≤◌, ◌<◌, ◌+◌, ◌-◌, min, length, take, drop};
 ghost use Rattle.std.specs.List.{prefix_len, suffix_len};
 ghost use Rattle.text_model.specs.Lines.{lines, line_of};
-ghost use Rattle.text_index.specs.Views.{shown, IsView};
+ghost use Rattle.text_index.specs.Parts.{part_of};
+ghost use Rattle.text_index.specs.Views.{shown};
 ghost use Rattle.text_index.specs.Values.{in_line, column_of, lines_on, lines_back, lines_by, modified};
 ghost use Rattle.text_index.specs.Words.{is_word};
 ghost use Rattle.index_grammar.specs.declared.indices.Modifier.TheVariants as modifier;
@@ -15,9 +16,8 @@ use text_model::TextStore;
 
 /// The place so many characters on, or the end.
 pub fn forward<S: TextStore>(view: &View<'_, S>, place: usize, count: usize) -> usize
-    requires view { IsView (S.content view.now.store.now) view.now.s view.now.e }
-    ensures value { result ≡ min (place + count) (length (shown (S.content view.now.store.now) view.now.s view.now.e)) }
-    ensures bound { view.now.s + result ≤ view.now.e }
+    ensures value { result ≡ min (place + count) (length (shown (part_of view.now))) }
+    ensures bound { view.now.start + result ≤ view.now.end }
 {
     place.saturating_add(count).min(view.len())
 }
@@ -31,10 +31,9 @@ pub fn back(place: usize, count: usize) -> usize
 
 /// A character of a line, or its newline where the line is shorter.
 fn in_line<S: TextStore>(view: &View<'_, S>, line: usize, character: usize) -> usize
-    requires view { IsView (S.content view.now.store.now) view.now.s view.now.e }
-    requires known { line < lines (shown (S.content view.now.store.now) view.now.s view.now.e) }
-    ensures value { result ≡ in_line line character (shown (S.content view.now.store.now) view.now.s view.now.e) }
-    ensures bound { view.now.s + result ≤ view.now.e }
+    requires known { line < lines (shown (part_of view.now)) }
+    ensures value { result ≡ in_line line character (shown (part_of view.now)) }
+    ensures bound { view.now.start + result ≤ view.now.end }
 {
     let (start, behind) = view.line_bounds(line).unwrap();
     start.saturating_add(character).min(behind - 1)
@@ -42,10 +41,9 @@ fn in_line<S: TextStore>(view: &View<'_, S>, line: usize, character: usize) -> u
 
 /// The line of a place, and how many characters stand before it there.
 pub fn line_and_column<S: TextStore>(view: &View<'_, S>, place: usize) -> (usize, usize)
-    requires view { IsView (S.content view.now.store.now) view.now.s view.now.e }
-    requires within { view.now.s + place ≤ view.now.e }
-    ensures line { result.0 ≡ line_of (shown (S.content view.now.store.now) view.now.s view.now.e) place }
-    ensures column { result.1 ≡ column_of (shown (S.content view.now.store.now) view.now.s view.now.e) place }
+    requires within { view.now.start + place ≤ view.now.end }
+    ensures line { result.0 ≡ line_of (shown (part_of view.now)) place }
+    ensures column { result.1 ≡ column_of (shown (part_of view.now)) place }
 {
     let line = view.line_at(place);
     (line.number, place - line.start)
@@ -53,10 +51,9 @@ pub fn line_and_column<S: TextStore>(view: &View<'_, S>, place: usize) -> (usize
 
 /// The same character so many lines on, or on the last line; its newline where that line is shorter. The end stays.
 fn lines_on<S: TextStore>(view: &View<'_, S>, place: usize, count: usize) -> usize
-    requires view { IsView (S.content view.now.store.now) view.now.s view.now.e }
-    requires within { view.now.s + place ≤ view.now.e }
-    ensures value { result ≡ lines_on count (shown (S.content view.now.store.now) view.now.s view.now.e) place }
-    ensures bound { view.now.s + result ≤ view.now.e }
+    requires within { view.now.start + place ≤ view.now.end }
+    ensures value { result ≡ lines_on count (shown (part_of view.now)) place }
+    ensures bound { view.now.start + result ≤ view.now.end }
 {
     if place == view.len() {
         return place;
@@ -72,10 +69,9 @@ fn lines_on<S: TextStore>(view: &View<'_, S>, place: usize, count: usize) -> usi
 /// The same character so many lines back, or on the first line; its newline where that line is shorter. The end counts
 /// as the first character of a line behind the last.
 fn lines_back<S: TextStore>(view: &View<'_, S>, place: usize, count: usize) -> usize
-    requires view { IsView (S.content view.now.store.now) view.now.s view.now.e }
-    requires within { view.now.s + place ≤ view.now.e }
-    ensures value { result ≡ lines_back count (shown (S.content view.now.store.now) view.now.s view.now.e) place }
-    ensures bound { view.now.s + result ≤ view.now.e }
+    requires within { view.now.start + place ≤ view.now.end }
+    ensures value { result ≡ lines_back count (shown (part_of view.now)) place }
+    ensures bound { view.now.start + result ≤ view.now.end }
 {
     let (line, column) = line_and_column(view, place);
     let back = line.saturating_sub(count);
@@ -93,11 +89,10 @@ pub fn lines_by<S: TextStore>(
     direction: Direction,
     count: usize,
 ) -> usize
-    requires view { IsView (S.content view.now.store.now) view.now.s view.now.e }
-    requires within { view.now.s + place ≤ view.now.e }
-    ensures value { result ≡ lines_by direction count (shown (S.content view.now.store.now) view.now.s view.now.e)
+    requires within { view.now.start + place ≤ view.now.end }
+    ensures value { result ≡ lines_by direction count (shown (part_of view.now))
         place }
-    ensures bound { view.now.s + result ≤ view.now.e }
+    ensures bound { view.now.start + result ≤ view.now.end }
 {
     let view = &view.lined();
     match direction {
@@ -108,11 +103,10 @@ pub fn lines_by<S: TextStore>(
 
 /// The begin of the word of a place. The end stays.
 pub fn word_start<S: TextStore>(view: &View<'_, S>, place: usize) -> usize
-    requires view { IsView (S.content view.now.store.now) view.now.s view.now.e }
-    requires within { view.now.s + place ≤ view.now.e }
-    ensures value { result ≡ modified is_word (shown (S.content view.now.store.now) view.now.s view.now.e) place
+    requires within { view.now.start + place ≤ view.now.end }
+    ensures value { result ≡ modified is_word (shown (part_of view.now)) place
         modifier.WordStart }
-    ensures bound { view.now.s + result ≤ view.now.e }
+    ensures bound { view.now.start + result ≤ view.now.end }
 {
     if place == view.len() {
         return place;
@@ -123,11 +117,10 @@ pub fn word_start<S: TextStore>(view: &View<'_, S>, place: usize) -> usize
 
 /// The place behind the word of a place; but the last place stays, and so does the end.
 pub fn word_end<S: TextStore>(view: &View<'_, S>, place: usize) -> usize
-    requires view { IsView (S.content view.now.store.now) view.now.s view.now.e }
-    requires within { view.now.s + place ≤ view.now.e }
-    ensures value { result ≡ modified is_word (shown (S.content view.now.store.now) view.now.s view.now.e) place
+    requires within { view.now.start + place ≤ view.now.end }
+    ensures value { result ≡ modified is_word (shown (part_of view.now)) place
         modifier.WordEnd }
-    ensures bound { view.now.s + result ≤ view.now.e }
+    ensures bound { view.now.start + result ≤ view.now.end }
 {
     let left = view.len() - place;
     if left <= 1 {
@@ -138,38 +131,35 @@ pub fn word_end<S: TextStore>(view: &View<'_, S>, place: usize) -> usize
 
 /// Where the run of word characters before a place begins.
 fn run_begin<S: TextStore>(view: &View<'_, S>, place: usize) -> usize
-    requires view { IsView (S.content view.now.store.now) view.now.s view.now.e }
-    requires within { view.now.s + place ≤ view.now.e }
+    requires within { view.now.start + place ≤ view.now.end }
     ensures value { result ≡ place - suffix_len is_word
-        (take place (shown (S.content view.now.store.now) view.now.s view.now.e)) }
-    ensures bound { view.now.s + result ≤ view.now.e }
+        (take place (shown (part_of view.now))) }
+    ensures bound { view.now.start + result ≤ view.now.end }
 {
-    let start = view.store.run_start::<WordTest>(view.s + place);
-    start.saturating_sub(view.s)
+    let start = view.store.run_start::<WordTest>(view.start + place);
+    start.saturating_sub(view.start)
 }
 
 /// Where the run of word characters from a place on ends.
 fn run_end<S: TextStore>(view: &View<'_, S>, place: usize) -> usize
-    requires view { IsView (S.content view.now.store.now) view.now.s view.now.e }
-    requires within { view.now.s + place ≤ view.now.e }
+    requires within { view.now.start + place ≤ view.now.end }
     ensures value { result ≡ place + prefix_len is_word
-        (drop place (shown (S.content view.now.store.now) view.now.s view.now.e)) }
-    ensures bound { view.now.s + result ≤ view.now.e }
+        (drop place (shown (part_of view.now))) }
+    ensures bound { view.now.start + result ≤ view.now.end }
 {
     if place == view.len() {
         return place;
     }
-    let end = view.store.run_end::<WordTest>(view.s + place);
-    end.min(view.e) - view.s
+    let end = view.store.run_end::<WordTest>(view.start + place);
+    end.min(view.end) - view.start
 }
 
 /// The first place of a place's line. The end stays.
 pub fn line_start<S: TextStore>(view: &View<'_, S>, place: usize) -> usize
-    requires view { IsView (S.content view.now.store.now) view.now.s view.now.e }
-    requires within { view.now.s + place ≤ view.now.e }
-    ensures value { result ≡ modified is_word (shown (S.content view.now.store.now) view.now.s view.now.e) place
+    requires within { view.now.start + place ≤ view.now.end }
+    ensures value { result ≡ modified is_word (shown (part_of view.now)) place
         modifier.LineStart }
-    ensures bound { view.now.s + result ≤ view.now.e }
+    ensures bound { view.now.start + result ≤ view.now.end }
 {
     if place == view.len() {
         return place;
@@ -179,11 +169,10 @@ pub fn line_start<S: TextStore>(view: &View<'_, S>, place: usize) -> usize
 
 /// The newline of a place's line. The end stays.
 pub fn line_end<S: TextStore>(view: &View<'_, S>, place: usize) -> usize
-    requires view { IsView (S.content view.now.store.now) view.now.s view.now.e }
-    requires within { view.now.s + place ≤ view.now.e }
-    ensures value { result ≡ modified is_word (shown (S.content view.now.store.now) view.now.s view.now.e) place
+    requires within { view.now.start + place ≤ view.now.end }
+    ensures value { result ≡ modified is_word (shown (part_of view.now)) place
         modifier.LineEnd }
-    ensures bound { view.now.s + result ≤ view.now.e }
+    ensures bound { view.now.start + result ≤ view.now.end }
 {
     if place == view.len() {
         return place;

@@ -3,7 +3,8 @@
 ghost use Rattle.std.specs.Prelude.{◌≡◌, ℕ, ◌≤◌, ◌+◌, ◌-◌, ◌++◌, ◌∷◌, List, chars, string_bytes, decimal, OnOk, OnErr};
 ghost use Rattle.std.specs.Prelude.{IsAscii};
 ghost use Rattle.text_model.specs.Lines.{IsLineOf};
-ghost use Rattle.text_index.specs.Views.{shown, IsView};
+ghost use Rattle.text_index.specs.Parts.{part_of};
+ghost use Rattle.text_index.specs.Views.{shown};
 ghost use Rattle.text_index.specs.Positions.{position_text};
 
 use crate::views::View;
@@ -52,10 +53,9 @@ pub fn push_index<S: TextStore>(
     view: &View<'_, S>,
     place: usize,
 ) -> Result<(), AllocError>
-    requires view { IsView (S.content view.now.store.now) view.now.s view.now.e }
-    requires within { view.now.s + place ≤ view.now.e }
+    requires within { view.now.start + place ≤ view.now.end }
     ensures ok { OnOk result (chars (string_bytes text.new)
-        ≡ chars (string_bytes text.old) ++ position_text (shown (S.content view.now.store.now) view.now.s view.now.e)
+        ≡ chars (string_bytes text.old) ++ position_text (shown (part_of view.now))
         place) }
     ensures err { OnErr result (string_bytes text.new ≡ string_bytes text.old) }
 {

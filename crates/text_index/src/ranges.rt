@@ -3,7 +3,8 @@ ghost use Rattle.std.specs.Prelude.{◌≡◌, ◌<◌, ◌≤◌, ◌+◌, ◌-
 ghost use Rattle.text_model.specs.Changes.{flag_at, next_change, previous_change};
 ghost use Rattle.text_model.specs.TagBits.{slot_count};
 ghost use Rattle.text_index.specs.Ranges.{begins, next_range, previous_range, ranges_from, and_later};
-ghost use Rattle.text_index.specs.Views.{shown_flags, IsView};
+ghost use Rattle.text_index.specs.Parts.{part_of};
+ghost use Rattle.text_index.specs.Views.{shown_flags};
 ghost use Rattle.text_index.specs.Values.{first_tagged, last_tagged};
 
 use crate::views::View;
@@ -19,55 +20,51 @@ pub struct TagRange {
 
 /// Whether the character at a place has the tag of a slot.
 fn is_tagged<S: TextStore>(view: &View<'_, S>, slot: TagSlot, place: usize) -> bool
-    requires view { IsView (S.content view.now.store.now) view.now.s view.now.e }
     requires slot { slot.0 < slot_count }
-    requires within { view.now.s + place < view.now.e }
-    ensures { result ≡ flag_at (shown_flags slot.0 (S.content view.now.store.now) view.now.s view.now.e) place }
+    requires within { view.now.start + place < view.now.end }
+    ensures { result ≡ flag_at (shown_flags slot.0 (part_of view.now)) place }
 {
-    view.store.has_tag(view.s + place, slot)
+    view.store.has_tag(view.start + place, slot)
 }
 
 /// Returns the next place after one at which the tag of a slot begins or ends, or the end of the view.
 pub fn change_after<S: TextStore>(view: &View<'_, S>, slot: TagSlot, place: usize) -> usize
-    requires view { IsView (S.content view.now.store.now) view.now.s view.now.e }
     requires slot { slot.0 < slot_count }
-    requires within { view.now.s + place < view.now.e }
-    ensures value { result ≡ next_change (shown_flags slot.0 (S.content view.now.store.now) view.now.s view.now.e)
+    requires within { view.now.start + place < view.now.end }
+    ensures value { result ≡ next_change (shown_flags slot.0 (part_of view.now))
         place }
     ensures above { place < result }
-    ensures bound { view.now.s + result ≤ view.now.e }
+    ensures bound { view.now.start + result ≤ view.now.end }
 {
-    let change = view.store.next_change(view.s + place, slot);
-    change.min(view.e) - view.s
+    let change = view.store.next_change(view.start + place, slot);
+    change.min(view.end) - view.start
 }
 
 /// Where the run of characters begins that are like the one before a place in a tag.
 fn change_before<S: TextStore>(view: &View<'_, S>, slot: TagSlot, place: usize) -> usize
-    requires view { IsView (S.content view.now.store.now) view.now.s view.now.e }
     requires slot { slot.0 < slot_count }
     requires some { 0 < place }
-    requires within { view.now.s + place ≤ view.now.e }
-    ensures value { result ≡ previous_change (shown_flags slot.0 (S.content view.now.store.now) view.now.s view.now.e)
+    requires within { view.now.start + place ≤ view.now.end }
+    ensures value { result ≡ previous_change (shown_flags slot.0 (part_of view.now))
         place }
     ensures below { result < place }
 {
-    let change = view.store.previous_change(view.s + place, slot);
-    change.max(view.s) - view.s
+    let change = view.store.previous_change(view.start + place, slot);
+    change.max(view.start) - view.start
 }
 
 /// The end of the range that begins before a place and goes to it at least; the place itself where there is none.
 fn behind_range<S: TextStore>(view: &View<'_, S>, slot: TagSlot, place: usize) -> usize
-    requires view { IsView (S.content view.now.store.now) view.now.s view.now.e }
     requires slot { slot.0 < slot_count }
-    requires within { view.now.s + place ≤ view.now.e }
+    requires within { view.now.start + place ≤ view.now.end }
     ensures passed { (k : ℕ) → place ≤ k → k < result →
-        begins (shown_flags slot.0 (S.content view.now.store.now) view.now.s view.now.e) k ≡ false }
-    ensures here { flag_at (shown_flags slot.0 (S.content view.now.store.now) view.now.s view.now.e) result ≡ true
-        → begins (shown_flags slot.0 (S.content view.now.store.now) view.now.s view.now.e) result ≡ true }
+        begins (shown_flags slot.0 (part_of view.now)) k ≡ false }
+    ensures here { flag_at (shown_flags slot.0 (part_of view.now)) result ≡ true
+        → begins (shown_flags slot.0 (part_of view.now)) result ≡ true }
     ensures past { place < result →
-        flag_at (shown_flags slot.0 (S.content view.now.store.now) view.now.s view.now.e) result ≡ false }
+        flag_at (shown_flags slot.0 (part_of view.now)) result ≡ false }
     ensures above { place ≤ result }
-    ensures bound { view.now.s + result ≤ view.now.e }
+    ensures bound { view.now.start + result ≤ view.now.end }
 {
     if place == 0 || !is_tagged(view, slot, place - 1) {
         return place;
@@ -78,16 +75,15 @@ fn behind_range<S: TextStore>(view: &View<'_, S>, slot: TagSlot, place: usize) -
 /// The first place from a place on at which a range begins, where the character at the place hasn't the tag or the view
 /// ends; the end of the view where there is none.
 fn start_behind<S: TextStore>(view: &View<'_, S>, slot: TagSlot, place: usize) -> usize
-    requires view { IsView (S.content view.now.store.now) view.now.s view.now.e }
     requires slot { slot.0 < slot_count }
-    requires within { view.now.s + place ≤ view.now.e }
-    requires unset { flag_at (shown_flags slot.0 (S.content view.now.store.now) view.now.s view.now.e) place ≡ false }
+    requires within { view.now.start + place ≤ view.now.end }
+    requires unset { flag_at (shown_flags slot.0 (part_of view.now)) place ≡ false }
     ensures passed { (k : ℕ) → place ≤ k → k < result →
-        begins (shown_flags slot.0 (S.content view.now.store.now) view.now.s view.now.e) k ≡ false }
-    ensures here { view.now.s + result < view.now.e →
-        begins (shown_flags slot.0 (S.content view.now.store.now) view.now.s view.now.e) result ≡ true }
+        begins (shown_flags slot.0 (part_of view.now)) k ≡ false }
+    ensures here { view.now.start + result < view.now.end →
+        begins (shown_flags slot.0 (part_of view.now)) result ≡ true }
     ensures above { place ≤ result }
-    ensures bound { view.now.s + result ≤ view.now.e }
+    ensures bound { view.now.start + result ≤ view.now.end }
 {
     if place == view.len() {
         return place;
@@ -97,15 +93,14 @@ fn start_behind<S: TextStore>(view: &View<'_, S>, slot: TagSlot, place: usize) -
 
 /// The first place from a place on at which a range begins; the end of the view where there is none.
 fn next_start<S: TextStore>(view: &View<'_, S>, slot: TagSlot, place: usize) -> usize
-    requires view { IsView (S.content view.now.store.now) view.now.s view.now.e }
     requires slot { slot.0 < slot_count }
-    requires within { view.now.s + place ≤ view.now.e }
+    requires within { view.now.start + place ≤ view.now.end }
     ensures passed { (k : ℕ) → place ≤ k → k < result →
-        begins (shown_flags slot.0 (S.content view.now.store.now) view.now.s view.now.e) k ≡ false }
-    ensures here { view.now.s + result < view.now.e →
-        begins (shown_flags slot.0 (S.content view.now.store.now) view.now.s view.now.e) result ≡ true }
+        begins (shown_flags slot.0 (part_of view.now)) k ≡ false }
+    ensures here { view.now.start + result < view.now.end →
+        begins (shown_flags slot.0 (part_of view.now)) result ≡ true }
     ensures above { place ≤ result }
-    ensures bound { view.now.s + result ≤ view.now.e }
+    ensures bound { view.now.start + result ≤ view.now.end }
 {
     if place == view.len() {
         return place;
@@ -122,12 +117,11 @@ fn next_start<S: TextStore>(view: &View<'_, S>, slot: TagSlot, place: usize) -> 
 
 /// The place behind the last character before a place that has the tag of a slot; 0 where there is none.
 fn behind_tagged<S: TextStore>(view: &View<'_, S>, slot: TagSlot, place: usize) -> usize
-    requires view { IsView (S.content view.now.store.now) view.now.s view.now.e }
     requires slot { slot.0 < slot_count }
-    requires within { view.now.s + place ≤ view.now.e }
+    requires within { view.now.start + place ≤ view.now.end }
     ensures passed { (k : ℕ) → result ≤ k → k < place →
-        flag_at (shown_flags slot.0 (S.content view.now.store.now) view.now.s view.now.e) k ≡ false }
-    ensures here { 0 < result → flag_at (shown_flags slot.0 (S.content view.now.store.now) view.now.s view.now.e)
+        flag_at (shown_flags slot.0 (part_of view.now)) k ≡ false }
+    ensures here { 0 < result → flag_at (shown_flags slot.0 (part_of view.now))
         (result - 1) ≡ true }
     ensures below { result ≤ place }
 {
@@ -139,17 +133,16 @@ fn behind_tagged<S: TextStore>(view: &View<'_, S>, slot: TagSlot, place: usize) 
 
 /// The range of a tag that begins at a place; none where the place is the end of the view.
 fn range_at<S: TextStore>(view: &View<'_, S>, slot: TagSlot, start: usize) -> Option<TagRange>
-    requires view { IsView (S.content view.now.store.now) view.now.s view.now.e }
     requires slot { slot.0 < slot_count }
-    requires within { view.now.s + start ≤ view.now.e }
-    requires here { view.now.s + start < view.now.e →
-        begins (shown_flags slot.0 (S.content view.now.store.now) view.now.s view.now.e) start ≡ true }
+    requires within { view.now.start + start ≤ view.now.end }
+    requires here { view.now.start + start < view.now.end →
+        begins (shown_flags slot.0 (part_of view.now)) start ≡ true }
     ensures value { (place : ℕ) → place ≤ start → ((k : ℕ) → place ≤ k → k < start →
-        begins (shown_flags slot.0 (S.content view.now.store.now) view.now.s view.now.e) k ≡ false) →
-        result ≡ next_range (shown_flags slot.0 (S.content view.now.store.now) view.now.s view.now.e) place }
+        begins (shown_flags slot.0 (part_of view.now)) k ≡ false) →
+        result ≡ next_range (shown_flags slot.0 (part_of view.now)) place }
     ensures there { IfSome result (λ range. range.start ≡ start) }
     ensures some { IfSome result (λ range. range.start < range.end) }
-    ensures bound { IfSome result (λ range. view.now.s + range.end ≤ view.now.e) }
+    ensures bound { IfSome result (λ range. view.now.start + range.end ≤ view.now.end) }
 {
     if start == view.len() {
         return None;
@@ -162,16 +155,15 @@ fn range_at<S: TextStore>(view: &View<'_, S>, slot: TagSlot, start: usize) -> Op
 ///
 /// Who walks over all ranges begins at 0, and goes on at the end of each.
 pub fn next_range<S: TextStore>(view: &View<'_, S>, slot: TagSlot, place: usize) -> Option<TagRange>
-    requires view { IsView (S.content view.now.store.now) view.now.s view.now.e }
     requires slot { slot.0 < slot_count }
-    requires within { view.now.s + place ≤ view.now.e }
-    ensures value { result ≡ next_range (shown_flags slot.0 (S.content view.now.store.now) view.now.s view.now.e)
+    requires within { view.now.start + place ≤ view.now.end }
+    ensures value { result ≡ next_range (shown_flags slot.0 (part_of view.now))
         place }
-    ensures later { ranges_from (shown_flags slot.0 (S.content view.now.store.now) view.now.s view.now.e) place
-        ≡ and_later (shown_flags slot.0 (S.content view.now.store.now) view.now.s view.now.e) result }
+    ensures later { ranges_from (shown_flags slot.0 (part_of view.now)) place
+        ≡ and_later (shown_flags slot.0 (part_of view.now)) result }
     ensures behind { IfSome result (λ range. place ≤ range.start) }
     ensures some { IfSome result (λ range. range.start < range.end) }
-    ensures bound { IfSome result (λ range. view.now.s + range.end ≤ view.now.e) }
+    ensures bound { IfSome result (λ range. view.now.start + range.end ≤ view.now.end) }
 {
     let start = next_start(view, slot, place);
     range_at(view, slot, start)
@@ -187,17 +179,16 @@ pub fn range_behind<S: TextStore>(
     slot: TagSlot,
     place: usize,
 ) -> Option<TagRange>
-    requires view { IsView (S.content view.now.store.now) view.now.s view.now.e }
     requires slot { slot.0 < slot_count }
-    requires within { view.now.s + place ≤ view.now.e }
-    requires unset { flag_at (shown_flags slot.0 (S.content view.now.store.now) view.now.s view.now.e) place ≡ false }
-    ensures value { result ≡ next_range (shown_flags slot.0 (S.content view.now.store.now) view.now.s view.now.e)
+    requires within { view.now.start + place ≤ view.now.end }
+    requires unset { flag_at (shown_flags slot.0 (part_of view.now)) place ≡ false }
+    ensures value { result ≡ next_range (shown_flags slot.0 (part_of view.now))
         place }
-    ensures later { ranges_from (shown_flags slot.0 (S.content view.now.store.now) view.now.s view.now.e) place
-        ≡ and_later (shown_flags slot.0 (S.content view.now.store.now) view.now.s view.now.e) result }
+    ensures later { ranges_from (shown_flags slot.0 (part_of view.now)) place
+        ≡ and_later (shown_flags slot.0 (part_of view.now)) result }
     ensures behind { IfSome result (λ range. place ≤ range.start) }
     ensures some { IfSome result (λ range. range.start < range.end) }
-    ensures bound { IfSome result (λ range. view.now.s + range.end ≤ view.now.e) }
+    ensures bound { IfSome result (λ range. view.now.start + range.end ≤ view.now.end) }
 {
     let start = start_behind(view, slot, place);
     range_at(view, slot, start)
@@ -210,14 +201,13 @@ pub fn previous_range<S: TextStore>(
     slot: TagSlot,
     place: usize,
 ) -> Option<TagRange>
-    requires view { IsView (S.content view.now.store.now) view.now.s view.now.e }
     requires slot { slot.0 < slot_count }
-    requires within { view.now.s + place ≤ view.now.e }
-    ensures value { result ≡ previous_range (shown_flags slot.0 (S.content view.now.store.now) view.now.s view.now.e)
+    requires within { view.now.start + place ≤ view.now.end }
+    ensures value { result ≡ previous_range (shown_flags slot.0 (part_of view.now))
         place }
     ensures before { IfSome result (λ range. range.start < place) }
     ensures some { IfSome result (λ range. range.start < range.end) }
-    ensures bound { IfSome result (λ range. view.now.s + range.end ≤ view.now.e) }
+    ensures bound { IfSome result (λ range. view.now.start + range.end ≤ view.now.end) }
 {
     let behind = behind_tagged(view, slot, place);
     if behind == 0 {
@@ -233,10 +223,9 @@ pub fn previous_range<S: TextStore>(
 
 /// The first place of the view whose character has the tag of a slot.
 pub fn first_tagged<S: TextStore>(view: &View<'_, S>, slot: TagSlot) -> Option<usize>
-    requires view { IsView (S.content view.now.store.now) view.now.s view.now.e }
     requires slot { slot.0 < slot_count }
-    ensures value { result ≡ first_tagged (shown_flags slot.0 (S.content view.now.store.now) view.now.s view.now.e) }
-    ensures within { IfSome result (λ place. view.now.s + place ≤ view.now.e) }
+    ensures value { result ≡ first_tagged (shown_flags slot.0 (part_of view.now)) }
+    ensures within { IfSome result (λ place. view.now.start + place ≤ view.now.end) }
 {
     let range = next_range(view, slot, 0)?;
     Some(range.start)
@@ -244,10 +233,9 @@ pub fn first_tagged<S: TextStore>(view: &View<'_, S>, slot: TagSlot) -> Option<u
 
 /// The place behind the last character of the view that has the tag of a slot.
 pub fn last_tagged<S: TextStore>(view: &View<'_, S>, slot: TagSlot) -> Option<usize>
-    requires view { IsView (S.content view.now.store.now) view.now.s view.now.e }
     requires slot { slot.0 < slot_count }
-    ensures value { result ≡ last_tagged (shown_flags slot.0 (S.content view.now.store.now) view.now.s view.now.e) }
-    ensures within { IfSome result (λ place. view.now.s + place ≤ view.now.e) }
+    ensures value { result ≡ last_tagged (shown_flags slot.0 (part_of view.now)) }
+    ensures within { IfSome result (λ place. view.now.start + place ≤ view.now.end) }
 {
     let range = previous_range(view, slot, view.len())?;
     Some(range.end)

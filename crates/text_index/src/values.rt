@@ -1,7 +1,8 @@
 //! The place of a view that an index stands for: the place of its base, moved by each modifier in turn.
 
 ghost use Rattle.std.specs.Prelude.{◌≡◌, suc, ◌≤◌, ◌<◌, ◌+◌, None, Some, IfOk, IfSome};
-ghost use Rattle.text_index.specs.Views.{shown, shown_flags, shown_mark, IsView};
+ghost use Rattle.text_index.specs.Parts.{part_of};
+ghost use Rattle.text_index.specs.Views.{shown, shown_flags, shown_mark};
 ghost use Rattle.text_index.specs.Values.{line_value, base_value, modified, modified_by, index_value};
 ghost use Rattle.index_grammar.specs.Reading.{HasSlot};
 ghost use Rattle.text_index.specs.Words.{is_word};
@@ -15,21 +16,20 @@ use text_model::{Limits, MarkNo, TextStore};
 /// Where the view shows a mark: the widgets' own within its characters, and the shared ones only where they stand in
 /// it.
 fn shown_mark<S: TextStore>(view: &View<'_, S>, number: MarkNo) -> Option<usize>
-    requires view { IsView (S.content view.now.store.now) view.now.s view.now.e }
-    ensures value { result ≡ shown_mark (S.content view.now.store.now) view.now.s view.now.e number.0 }
-    ensures within { IfSome result (λ place. view.now.s + place ≤ view.now.e) }
+    ensures value { result ≡ shown_mark (part_of view.now) number.0 }
+    ensures within { IfSome result (λ place. view.now.start + place ≤ view.now.end) }
 {
     let place = view.store.mark_place(number)?;
     if number.0 < 2 * Limits::MOST_WIDGETS {
         return Some(
             place
                 .offset
-                .saturating_sub(view.s)
+                .saturating_sub(view.start)
                 .min(view.len().saturating_sub(1)),
         );
     }
-    if view.s <= place.offset && place.offset <= view.e {
-        Some(place.offset - view.s)
+    if view.start <= place.offset && place.offset <= view.end {
+        Some(place.offset - view.start)
     } else {
         None
     }
@@ -37,10 +37,9 @@ fn shown_mark<S: TextStore>(view: &View<'_, S>, number: MarkNo) -> Option<usize>
 
 /// A character of a line, or its newline where the line is shorter; the end for a line behind the last.
 fn character_on<S: TextStore>(view: &View<'_, S>, line: usize, character: usize) -> usize
-    requires { IsView (S.content view.now.store.now) view.now.s view.now.e }
     ensures value { result
-        ≡ line_value (suc line) (Some character) (shown (S.content view.now.store.now) view.now.s view.now.e) }
-    ensures bound { view.now.s + result ≤ view.now.e }
+        ≡ line_value (suc line) (Some character) (shown (part_of view.now)) }
+    ensures bound { view.now.start + result ≤ view.now.end }
 {
     match view.line_bounds(line) {
         None => view.len(),
@@ -50,9 +49,8 @@ fn character_on<S: TextStore>(view: &View<'_, S>, line: usize, character: usize)
 
 /// The newline of a line; the end for a line behind the last.
 fn newline_on<S: TextStore>(view: &View<'_, S>, line: usize) -> usize
-    requires { IsView (S.content view.now.store.now) view.now.s view.now.e }
-    ensures value { result ≡ line_value (suc line) None (shown (S.content view.now.store.now) view.now.s view.now.e) }
-    ensures bound { view.now.s + result ≤ view.now.e }
+    ensures value { result ≡ line_value (suc line) None (shown (part_of view.now)) }
+    ensures bound { view.now.start + result ≤ view.now.end }
 {
     match view.behind_line(line) {
         None => view.len(),
@@ -63,9 +61,8 @@ fn newline_on<S: TextStore>(view: &View<'_, S>, line: usize) -> usize
 /// The place of a line that counts from 1: the first place for line 0, and the end for a line behind the last. The
 /// newline of the line, where no character is named or the line is shorter.
 fn on_line<S: TextStore>(view: &View<'_, S>, line: usize, character: Option<usize>) -> usize
-    requires view { IsView (S.content view.now.store.now) view.now.s view.now.e }
-    ensures value { result ≡ line_value line character (shown (S.content view.now.store.now) view.now.s view.now.e) }
-    ensures bound { view.now.s + result ≤ view.now.e }
+    ensures value { result ≡ line_value line character (shown (part_of view.now)) }
+    ensures bound { view.now.start + result ≤ view.now.end }
 {
     if line == 0 {
         return 0;
@@ -78,12 +75,11 @@ fn on_line<S: TextStore>(view: &View<'_, S>, line: usize, character: Option<usiz
 
 /// Where an index begins.
 fn base_value<S: TextStore>(view: &View<'_, S>, base: Base) -> Result<usize, IndexFault>
-    requires view { IsView (S.content view.now.store.now) view.now.s view.now.e }
     requires slot { HasSlot base }
-    ensures value { result ≡ base_value (shown_mark (S.content view.now.store.now) view.now.s view.now.e)
-        (λ slot. shown_flags slot (S.content view.now.store.now) view.now.s view.now.e)
-        (shown (S.content view.now.store.now) view.now.s view.now.e) base }
-    ensures within { IfOk result (λ place. view.now.s + place ≤ view.now.e) }
+    ensures value { result ≡ base_value (shown_mark (part_of view.now))
+        (λ slot. shown_flags slot (part_of view.now))
+        (shown (part_of view.now)) base }
+    ensures within { IfOk result (λ place. view.now.start + place ≤ view.now.end) }
 {
     match base {
         Base::At(line, character) => Ok(on_line(view, line, Some(character))),
@@ -101,11 +97,10 @@ fn base_value<S: TextStore>(view: &View<'_, S>, base: Base) -> Result<usize, Ind
 
 /// Where a modifier leads from a place.
 fn modified<S: TextStore>(view: &View<'_, S>, place: usize, modifier: Modifier) -> usize
-    requires view { IsView (S.content view.now.store.now) view.now.s view.now.e }
-    requires within { view.now.s + place ≤ view.now.e }
-    ensures value { result ≡ modified is_word (shown (S.content view.now.store.now) view.now.s view.now.e) place
+    requires within { view.now.start + place ≤ view.now.end }
+    ensures value { result ≡ modified is_word (shown (part_of view.now)) place
         modifier }
-    ensures within { view.now.s + result ≤ view.now.e }
+    ensures within { view.now.start + result ≤ view.now.end }
 {
     match modifier {
         Modifier::Forward(Unit::Characters, count) => forward(view, place, count),
@@ -124,12 +119,11 @@ fn modified<S: TextStore>(view: &View<'_, S>, place: usize, modifier: Modifier) 
 /// "bad text index" where it names a mark that the view can't use, and "no tagged characters" where no character of the
 /// view has the tag that it names. It takes no memory.
 pub fn resolve<S: TextStore>(index: &Index, view: &View<'_, S>) -> Result<usize, IndexFault>
-    requires view { IsView (S.content view.now.store.now) view.now.s view.now.e }
     requires slot { HasSlot index.now.base }
-    ensures value { result ≡ index_value is_word (shown_mark (S.content view.now.store.now) view.now.s view.now.e)
-        (λ slot. shown_flags slot (S.content view.now.store.now) view.now.s view.now.e)
-        (shown (S.content view.now.store.now) view.now.s view.now.e) index.now.base index.now.modifiers }
-    ensures within { IfOk result (λ place. view.now.s + place ≤ view.now.e) }
+    ensures value { result ≡ index_value is_word (shown_mark (part_of view.now))
+        (λ slot. shown_flags slot (part_of view.now))
+        (shown (part_of view.now)) index.now.base index.now.modifiers }
+    ensures within { IfOk result (λ place. view.now.start + place ≤ view.now.end) }
 {
     let place = base_value(view, index.base)?;
     Ok(modified_by(view, place, index.modifiers.as_slice()))
@@ -137,11 +131,10 @@ pub fn resolve<S: TextStore>(index: &Index, view: &View<'_, S>) -> Result<usize,
 
 /// Where modifiers lead from a place, the first first.
 fn modified_by<S: TextStore>(view: &View<'_, S>, from: usize, modifiers: &[Modifier]) -> usize
-    requires view { IsView (S.content view.now.store.now) view.now.s view.now.e }
-    requires within { view.now.s + from ≤ view.now.e }
-    ensures value { result ≡ modified_by is_word (shown (S.content view.now.store.now) view.now.s view.now.e)
+    requires within { view.now.start + from ≤ view.now.end }
+    ensures value { result ≡ modified_by is_word (shown (part_of view.now))
         modifiers.now from }
-    ensures within { view.now.s + result ≤ view.now.e }
+    ensures within { view.now.start + result ≤ view.now.end }
 {
     let mut place = from;
     for modifier in modifiers {

@@ -1,11 +1,11 @@
-use Rattle.documents.proofs.Common.{[], ◌∷◌, string_bytes, goes_on, position_text, on_ok_weaker}
+use Rattle.documents.proofs.Common.{part_of, [], ◌∷◌, string_bytes, goes_on, position_text, on_ok_weaker}
 use Rattle.text_index.specs.Views.{shown}
 use Rattle.documents.proofs.listing.push_range.Goals as goal
 
 pub returns : goal.returns
 returns g c =
     let view = c.args.view.now in
-    let text = shown (g.S.TextStore.content view.store.now) view.s view.e in
+    let text = shown (part_of view) in
     on_ok_weaker c.push_place-2.result
     (λ end.
     goes_on (string_bytes c.args.list.now) (string_bytes c.push_place.new.list) (string_bytes c.push_place-2.new.list)

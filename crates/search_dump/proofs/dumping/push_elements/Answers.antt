@@ -1,8 +1,8 @@
-use Rattle.search_dump.proofs.Common.{◌≡◌, ℕ, ◌+◌, ◌<◌, ◌≤◌, if◌then◌else◌, ◌||◌, ◌==◌, ap, arith, inl, inr, length}
-use Rattle.search_dump.proofs.Common.{refl, string_bytes, subst, sym, ◌∙◌, IsTrue, flat_map, cases_Bool, cases_eq}
-use Rattle.search_dump.proofs.Common.{eq-eqb, or_left, Goes, elements_at, false, true, is_cut, places, seen_in, text_in}
-use Rattle.search_dump.proofs.Common.{AreBehind, AreTagsBefore, IsApart, IsFirstMark, IsNextTurn, IsQuietBesides}
-use Rattle.search_dump.proofs.Common.{IsSpot, Rows, Turn, stops_at_marks, stops_at_tags, length-shown}
+use Rattle.search_dump.proofs.Common.{part_of, outlook, shown, seen_by, AreBefore, IsTurnBehind, AreQuiet, ◌≡◌, ℕ, ◌+◌}
+use Rattle.search_dump.proofs.Common.{◌<◌, ◌≤◌, if◌then◌else◌, ◌||◌, ◌==◌, ap, arith, inl, inr, length, refl}
+use Rattle.search_dump.proofs.Common.{string_bytes, subst, sym, ◌∙◌, IsTrue, flat_map, cases_Bool, cases_eq, eq-eqb}
+use Rattle.search_dump.proofs.Common.{or_left, Goes, elements_at, false, true, is_cut, places, AreBehind, IsApart}
+use Rattle.search_dump.proofs.Common.{IsFirstMark, IsSpot, Rows, Turn, stops_at_marks, stops_at_tags, length-shown}
 use Rattle.search_dump.proofs.NextTurns.{rows-behind, rows-end, turn-ahead, turn-known, turn-later, turn-quiet}
 use Rattle.search_dump.proofs.NextTurns.{turn-stop}
 use Rattle.search_dump.proofs.StopLaws.{cut-next, cut-there, dump-begun, dump-on}
@@ -14,8 +14,8 @@ use Rattle.search_dump.proofs.dumping.push_elements.Goals as goal
 pub loop-place-init : goal.loop-place-init
 loop-place-init g c =
     let view = c.args.sight.now.view.now in
-    let seen = seen_in g.S.TextStore.content view c.args.sight.now.names.now in
-    let long = length-shown (g.S.TextStore.content view.store.now) view.s view.e c.requires.view in
+    let seen = seen_by (outlook c.args.sight.now) in
+    let long = length-shown (part_of view) view.whole_lines in
     let count = length c.args.sight.now.names.now.tags.now.tags in
     let first = c.first_turn-turn.ensures in
     let turn = c.first_turn-turn.result in
@@ -61,41 +61,37 @@ loop-place-init g c =
       behind = λ is _. c.listed_behind-behind.ensures is;
       cut = λ _. inr (or_left (c.args.from == c.args.from) (is_cut seen c.args.from)
           (eq-eqb c.args.from c.args.from refl));
-      left = c.new-copied.ensures.left (text_in g.S.TextStore.content view)
+      left = c.new-copied.ensures.left (shown (part_of view))
           (omega (arith, long, c.requires.ordered, c.requires.within)) (omega (arith, long, c.requires.within));
     }
 
 -- the next turn, whether it was known or looked for
 turned : (g : Over) (c : After-next_turn-turn g) → stops_at_tags c.args.listed ≡ true →
-    IsNextTurn g.S.TextStore.content c.args.sight.now.view.now c.args.sight.now.names.now c.loop-place.place c.args.to
+    IsTurnBehind (outlook c.args.sight.now) c.loop-place.place c.args.to
     c.next_turn-turn.new.changes.next.items c.next_turn-turn.result
 turned g c stops =
-    let view = c.args.sight.now.view.now in
-    let names = c.args.sight.now.names.now in
     let place = c.loop-place.place in
     let found = c.next_turn-turn.ensures in
     let before = c.loop-place.invariant in
     elim (cases_eq c.loop-place.turn.place place) [
       | inl same ↦ found.found same
       | inr other ↦
-          subst (λ next. IsNextTurn g.S.TextStore.content view names place c.args.to next c.next_turn-turn.result)
+          subst (λ next. IsTurnBehind (outlook c.args.sight.now) place c.args.to next c.next_turn-turn.result)
           (sym (found.same other))
-          (subst (λ (turn : Turn). IsNextTurn g.S.TextStore.content view names place c.args.to
+          (subst (λ (turn : Turn). IsTurnBehind (outlook c.args.sight.now) place c.args.to
           c.loop-place.changes.next.items turn) (sym (found.kept other))
           (before.later stops (omega (arith, other, before.turn))))
     ]
 
 pub loop-place-preserved : goal.loop-place-preserved
 loop-place-preserved g c =
-    let view = c.args.sight.now.view.now in
     let names = c.args.sight.now.names.now in
-    let content = g.S.TextStore.content view.store.now in
-    let seen = seen_in g.S.TextStore.content view names in
+    let seen = seen_by (outlook c.args.sight.now) in
     let before = c.loop-place.invariant in
     let stop = c.next_stop-next.ensures.stop in
     let next = c.next_stop-next.result in
     let turn = c.next_turn-turn.result in
-    let count = length names.tags.now.tags in
+    let count = length c.args.sight.now.names.now.tags.now.tags in
     let upto = c.next_stop-next.ensures.before in
     let there = c.rows_at-rows-in-loop-place.ensures in
     let stops = stops_at_tags c.args.listed in
@@ -128,10 +124,10 @@ loop-place-preserved g c =
         | inr none ↦ absurd (omega (arith, same, below, idle none))
       ];
       later = λ is behind. turn-later (after is) next (omega (arith, stop.above)) behind;
-      quiet = λ is. subst (λ (rows : Rows). IsQuietBesides g.S.TextStore.content view names rows next) (sym there)
+      quiet = λ is. subst (λ (rows : Rows). AreQuiet (outlook c.args.sight.now) rows next) (sym there)
           (turn-quiet (after (or_left c.args.listed.tags c.args.listed.text is)) next stop.above upto);
       mark = c.next_stop-next.ensures.mark;
-      before = λ is. before-on content view.s view.e names.tags.now.tags names.marks.now.marks names.widget.0
+      before = λ is. before-on (outlook c.args.sight.now)
           c.loop-place.place next c.loop-place.behind stop.above (stop.tags is)
           (before.behind is c.loop-place-test.true);
       behind = λ is upto. c.turned_tags-behind.ensures is (omega (arith, upto, c.requires.within));
@@ -142,7 +138,7 @@ loop-place-preserved g c =
 pub next_stop-next-requires-clause-tag : goal.next_stop-next-requires-clause-tag
 next_stop-next-requires-clause-tag g c is =
     turn-stop (turned g (goal.at.next_stop-next-requires-clause-tag g c).After-next_turn-turn is)
-    c.args.sight.now.names.now.marks.now.marks c.requires.view c.loop-place-test.true
+    c.args.sight.now.view.now.whole_lines c.loop-place-test.true
     (omega (arith, c.requires.within))
 
 pub turned_tags-behind-requires-clause-known : goal.turned_tags-behind-requires-clause-known
@@ -166,16 +162,13 @@ push_listed_tags-requires-clause-behind g c is = c.loop-place.invariant.behind i
 
 pub turned_tags-behind-requires-clause-before : goal.turned_tags-behind-requires-clause-before
 turned_tags-behind-requires-clause-before g c is =
-    let view = c.args.sight.now.view.now in
-    let names = c.args.sight.now.names.now in
-    before-on (g.S.TextStore.content view.store.now) view.s view.e names.tags.now.tags names.marks.now.marks
-    names.widget.0 c.loop-place.place c.next_stop-next.result c.loop-place.behind
+    before-on (outlook c.args.sight.now) c.loop-place.place c.next_stop-next.result c.loop-place.behind
     c.next_stop-next.ensures.stop.above (c.next_stop-next.ensures.stop.tags is)
     (c.loop-place.invariant.behind is c.loop-place-test.true)
 
 pub returns-clause-goes : goal.returns-clause-goes
 returns-clause-goes g c =
-    let seen = seen_in g.S.TextStore.content c.args.sight.now.view.now c.args.sight.now.names.now in
+    let seen = seen_by (outlook c.args.sight.now) in
     let each = elements_at c.args.listed seen c.args.from c.args.to in
     let end : c.loop-place.place ≡ c.args.to = omega (arith, c.loop-place.invariant.within, c.loop-place-test.false) in
     subst (λ place. Goes (string_bytes c.args.out.now.list) (string_bytes c.loop-place.out.list)
@@ -186,25 +179,25 @@ returns-clause-mark g c =
     let view = c.args.sight.now.view.now in
     let end : c.loop-place.place ≡ c.args.to = omega (arith, c.loop-place.invariant.within, c.loop-place-test.false) in
     subst (λ place. IsTrue (stops_at_marks c.args.listed) →
-    IsFirstMark g.S.TextStore.content view c.args.sight.now.names.now (view.s + place) c.loop-place.mark) end
+    IsFirstMark (outlook c.args.sight.now) (view.start + place) c.loop-place.mark) end
     c.loop-place.invariant.mark
 
 pub returns-clause-before : goal.returns-clause-before
 returns-clause-before g c =
     let end : c.loop-place.place ≡ c.args.to = omega (arith, c.loop-place.invariant.within, c.loop-place-test.false) in
     subst (λ place. IsTrue c.args.listed.tags →
-    AreTagsBefore g.S.TextStore.content c.args.sight.now.view.now c.args.sight.now.names.now place c.loop-place.before) end
+    AreBefore (outlook c.args.sight.now) place c.loop-place.before) end
     c.loop-place.invariant.before
 
 pub returns-clause-spot : goal.returns-clause-spot
 returns-clause-spot g c =
     let end : c.loop-place.place ≡ c.args.to = omega (arith, c.loop-place.invariant.within, c.loop-place-test.false) in
-    subst (λ (place : ℕ). IsSpot (text_in g.S.TextStore.content c.args.sight.now.view.now)
+    subst (λ (place : ℕ). IsSpot (shown (part_of c.args.sight.now.view.now))
     (record { place = place; line = c.loop-place.line })) end c.loop-place.invariant.spot
 
 pub returns-clause-quiet : goal.returns-clause-quiet
 returns-clause-quiet g c =
     let end : c.loop-place.place ≡ c.args.to = omega (arith, c.loop-place.invariant.within, c.loop-place-test.false) in
     subst (λ place. IsTrue c.args.listed.tags →
-    IsQuietBesides g.S.TextStore.content c.args.sight.now.view.now c.args.sight.now.names.now c.loop-place.rows place) end
+    AreQuiet (outlook c.args.sight.now) c.loop-place.rows place) end
     c.loop-place.invariant.quiet

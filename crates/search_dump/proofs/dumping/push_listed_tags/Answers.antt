@@ -1,5 +1,6 @@
-use Rattle.search_dump.proofs.Common.{◌++◌, ap, string_bytes, subst, sym, ◌∙◌, flat_map, not-false, Goes, goes_on}
-use Rattle.search_dump.proofs.Common.{shown, if_listed, only_in, seen_by, tagoff_elements, tagon_elements}
+use Rattle.search_dump.proofs.Common.{part_of, outlook, ◌++◌, ap, string_bytes, subst, sym, ◌∙◌, flat_map, not-false}
+use Rattle.search_dump.proofs.Common.{Goes, goes_on, shown, if_listed, only_in, seen_by, tagoff_elements}
+use Rattle.search_dump.proofs.Common.{tagon_elements}
 use Rattle.search_dump.proofs.PlainWords.{tagoff-plain, tagon-plain}
 use Rattle.search_dump.proofs.SeenLaws.{tagoff-characters, tagoffs-are, tagon-characters, tagons-are}
 use Rattle.search_dump.proofs.dumping.push_listed_tags.Goals as goal
@@ -7,15 +8,13 @@ use Rattle.search_dump.proofs.dumping.push_listed_tags.Goals as goal
 pub returns : goal.returns
 returns g c =
     let view = c.args.sight.now.view.now in
-    let content = g.S.TextStore.content view.store.now in
-    let text = shown content view.s view.e in
+    let text = shown (part_of view) in
     let tags = c.args.sight.now.names.now.tags.now.tags in
-    let marks = c.args.sight.now.names.now.marks.now.marks in
     let widget = c.args.sight.now.names.now.widget.0 in
     let place = c.args.spot.place in
     let before = c.args.sides.now.on.now in
     let behind = c.args.sides.now.off.now in
-    let seen = seen_by content view.s view.e tags marks widget in
+    let seen = seen_by (outlook c.args.sight.now) in
     let is = not-false c.args.listed.tags c.if-not-listed.false in
     subst (λ b. Goes (string_bytes c.args.out.now.list) (string_bytes c.push_tags-2.new.out.list)
     (if_listed b (tagoff_elements seen place) ++ if_listed b (tagon_elements seen place))) (sym is)
@@ -24,12 +23,12 @@ returns g c =
     (tagoff_elements seen place) (tagon_elements seen place)
     (subst (Goes (string_bytes c.args.out.now.list) (string_bytes c.push_tags.new.out.list))
     (ap (λ key. flat_map (only_in before behind widget key text place) tags) tagoff-characters
-    ∙ tagoffs-are content view.s view.e tags marks widget place before behind (c.requires.before is)
+    ∙ tagoffs-are (outlook c.args.sight.now) place before behind (c.requires.before is)
     (c.requires.behind is))
     c.in_ok-push_tags.ensures)
     (subst (Goes (string_bytes c.push_tags.new.out.list) (string_bytes c.push_tags-2.new.out.list))
     (ap (λ key. flat_map (only_in behind before widget key text place) tags) tagon-characters
-    ∙ tagons-are content view.s view.e tags marks widget place before behind (c.requires.before is)
+    ∙ tagons-are (outlook c.args.sight.now) place before behind (c.requires.before is)
     (c.requires.behind is))
     c.in_ok-push_tags-2.ensures))
 

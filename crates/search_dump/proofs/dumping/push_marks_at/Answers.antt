@@ -8,24 +8,24 @@ loop-next-init g c = marks-begun c.requires.first
 pub returns-then-mark-spot-clause-goes : goal.returns-then-mark-spot-clause-goes
 returns-then-mark-spot-clause-goes g c =
     let view = c.args.sight.now.view.now in
-    marks-done c.loop-next.invariant c.args.sight.now.names.now.tags.now.tags c.requires.view.ordered
-    (subst (λ o. MatchOption (option_map (shown_of view.s) o) (Unit {0}) (λ m. m.place ≢ view.s + c.args.spot.place))
+    marks-done c.loop-next.invariant view.whole_lines.ordered
+    (subst (λ o. MatchOption (option_map (shown_of view.start) o) (Unit {0}) (λ m. m.place ≢ view.start + c.args.spot.place))
     (sym c.in-Some.is) (λ same. c.if-mark-spot.true (omega arith)))
 
 pub loop-next-smaller : goal.loop-next-smaller
 loop-next-smaller g c =
-    let show = shown_of c.args.sight.now.view.now.s in
+    let show = shown_of c.args.sight.now.view.now.start in
     marks-fewer c.loop-next.invariant (option_map show c.next-next.result) (ap (option_map show) c.in-Some.is)
     c.next-next.ensures
 
 pub loop-next-preserved : goal.loop-next-preserved
 loop-next-preserved g c = marks-on c.loop-next.invariant
-    (ap (option_map (shown_of c.args.sight.now.view.now.s)) c.in-Some.is) (omega (arith, c.if-mark-spot.false))
+    (ap (option_map (shown_of c.args.sight.now.view.now.start)) c.in-Some.is) (omega (arith, c.if-mark-spot.false))
     c.next-next.ensures c.in_ok-push_mark.ensures
 
 pub returns-clause-goes : goal.returns-clause-goes
 returns-clause-goes g c =
     let view = c.args.sight.now.view.now in
-    marks-done c.loop-next.invariant c.args.sight.now.names.now.tags.now.tags c.requires.view.ordered
-    (subst (λ o. MatchOption (option_map (shown_of view.s) o) (Unit {0}) (λ m. m.place ≢ view.s + c.args.spot.place))
+    marks-done c.loop-next.invariant view.whole_lines.ordered
+    (subst (λ o. MatchOption (option_map (shown_of view.start) o) (Unit {0}) (λ m. m.place ≢ view.start + c.args.spot.place))
     (sym c.in_default.is) tt)

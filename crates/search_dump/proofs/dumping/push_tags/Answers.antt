@@ -1,4 +1,4 @@
-use Rattle.search_dump.proofs.Common.{[], arith, chars, inl, inr, string_bytes, subst, sym, slice_index_or}
+use Rattle.search_dump.proofs.Common.{part_of, [], arith, chars, inl, inr, string_bytes, subst, sym, slice_index_or}
 use Rattle.search_dump.proofs.Common.{goes_nowhere, shown, element, if_listed, only_in, Goes}
 use Rattle.tag_table.specs.Tags.{names_of}
 use Rattle.search_dump.proofs.DumpLaws.{alike-none, flat-front, flat-rest, goes_flat, no_tag, tag-row}
@@ -7,7 +7,7 @@ use Rattle.search_dump.proofs.dumping.push_tags.Goals as goal
 pub loop-at-init : goal.loop-at-init
 loop-at-init g c =
     let view = c.args.sight.now.view.now in
-    let text = shown (g.S.TextStore.content view.store.now) view.s view.e in
+    let text = shown (part_of view) in
     let tags = c.args.sight.now.names.now.tags.now.tags in
     let key = chars c.args.key.now in
     let widget = c.args.sight.now.names.now.widget.0 in
@@ -21,7 +21,7 @@ loop-at-init g c =
 pub loop-at-preserved : goal.loop-at-preserved
 loop-at-preserved g c =
     let view = c.args.sight.now.view.now in
-    let text = shown (g.S.TextStore.content view.store.now) view.s view.e in
+    let text = shown (part_of view) in
     let tags = c.args.sight.now.names.now.tags.now.tags in
     let key = chars c.args.key.now in
     let widget = c.args.sight.now.names.now.widget.0 in
@@ -38,7 +38,7 @@ loop-at-preserved g c =
 pub returns : goal.returns
 returns g c =
     let view = c.args.sight.now.view.now in
-    let text = shown (g.S.TextStore.content view.store.now) view.s view.e in
+    let text = shown (part_of view) in
     let tags = c.args.sight.now.names.now.tags.now.tags in
     let key = chars c.args.key.now in
     let widget = c.args.sight.now.names.now.widget.0 in

@@ -1,17 +1,14 @@
-use Rattle.search_dump.proofs.Common.{arith, not-false}
-use Rattle.search_dump.proofs.ChangeLaws.{length-flags}
+use Rattle.search_dump.proofs.Common.{length-shown_flags, part_of, outlook, arith, not-false}
 use Rattle.search_dump.proofs.TurnLaws.{turned-are}
 use Rattle.search_dump.proofs.dumping.turned_tags.Goals as goal
 
 pub returns : goal.returns
 returns g c is within =
     let view = c.args.sight.now.view.now in
-    let names = c.args.sight.now.names.now in
-    let content = g.S.TextStore.content view.store.now in
     let known = c.requires.known is in
-    turned-are content view.s view.e names.tags.now.tags names.widget.0 known.0 c.args.stop
+    turned-are (outlook c.args.sight.now) known.0 c.args.stop
     c.args.changes.now.next.items c.args.before.now c.turned.result known.1
-    (λ slot. omega (arith, within, length-flags content view.s view.e c.requires.view slot))
+    (λ slot. omega (arith, within, length-shown_flags (part_of view) slot view.whole_lines))
     known.2 (c.requires.before is) c.turned.ensures
 
 pub turned-requires-clause-kept : goal.turned-requires-clause-kept

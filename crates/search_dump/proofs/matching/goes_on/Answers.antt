@@ -1,6 +1,6 @@
-use Rattle.search_dump.proofs.Common.{◌≡◌, ◌+◌, ◌-◌, ◌≤◌, ap, arith, chars, length, subst, sym, ◌∙◌, IsTrue}
+use Rattle.search_dump.proofs.Common.{part_of, ◌≡◌, ◌+◌, ◌-◌, ◌≤◌, ap, arith, chars, length, subst, sym, ◌∙◌, IsTrue}
 use Rattle.search_dump.proofs.Common.{slice_range, IfOk-weaker, shown, length-shown, compared, HasMatch, HasRoom}
-use Rattle.search_dump.proofs.Common.{beside, text_in}
+use Rattle.search_dump.proofs.Common.{beside}
 use Rattle.search_dump.proofs.RepeatLaws.{goes-back, goes-on}
 use Rattle.search_dump.proofs.WindowLaws.{length-compared}
 use Rattle.search_dump.proofs.matching.goes_on.Given.{Over}
@@ -9,20 +9,20 @@ use Rattle.search_dump.proofs.matching.goes_on.Goals as goal
 
 -- the text has room for the pattern further on
 room : (g : Over) (c : In-Forward g) → c.args.place + c.args.pattern.now.len + c.args.period.len
-    ≤ length (text_in g.S.TextStore.content c.args.view.now)
-room g c = subst (λ d. HasRoom d (text_in g.S.TextStore.content c.args.view.now) c.args.place c.args.pattern.now.len
+    ≤ length (shown (part_of c.args.view.now))
+room g c = subst (λ d. HasRoom d (shown (part_of c.args.view.now)) c.args.place c.args.pattern.now.len
     c.args.period.len) c.in-Forward.is c.requires.room
 
 pub overflow_add-from : goal.overflow_add-from
 overflow_add-from g c =
     let view = c.args.view.now in
-    let long = length-shown (g.S.TextStore.content view.store.now) view.s view.e c.requires.view in
+    let long = length-shown (part_of view) view.whole_lines in
     omega (arith, long, room g (goal.at.overflow_add-from g c).In-Forward)
 
 pub overflow_add-from-in-Forward : goal.overflow_add-from-in-Forward
 overflow_add-from-in-Forward g c =
     let view = c.args.view.now in
-    let long = length-shown (g.S.TextStore.content view.store.now) view.s view.e c.requires.view in
+    let long = length-shown (part_of view) view.whole_lines in
     omega (arith, long, room g (goal.at.overflow_add-from-in-Forward g c).In-Forward)
 
 pub returns-in-Forward : goal.returns-in-Forward
@@ -30,7 +30,7 @@ returns-in-Forward g c =
     let view = c.args.view.now in
     let pattern = c.args.pattern.now in
     let period = c.args.period in
-    let all = shown (g.S.TextStore.content view.store.now) view.s view.e in
+    let all = shown (part_of view) in
     let text = compared pattern.ignores_case all in
     let room = room g (goal.at.returns-in-Forward g c).In-Forward in
     IfOk-weaker c.stands.result (λ stands. IsTrue stands →
@@ -50,7 +50,7 @@ returns-in-Back g c =
     let view = c.args.view.now in
     let pattern = c.args.pattern.now in
     let period = c.args.period in
-    let all = shown (g.S.TextStore.content view.store.now) view.s view.e in
+    let all = shown (part_of view) in
     let text = compared pattern.ignores_case all in
     let room : period.len ≤ c.args.place = subst (λ d. HasRoom d all c.args.place pattern.len period.len) c.in-Back.is
     c.requires.room in

@@ -1,5 +1,5 @@
-use Rattle.search_dump.proofs.Common.{◌≡◌, ◌+◌, ◌-◌, ◌<◌, ◌≤◌, ◌^◌, Some, ap, chars, length, subst, sym, ◌∙◌, shown}
-use Rattle.search_dump.proofs.Common.{compared, beside}
+use Rattle.search_dump.proofs.Common.{part_of, ◌≡◌, ◌+◌, ◌-◌, ◌<◌, ◌≤◌, ◌^◌, Some, ap, chars, length, subst, sym, ◌∙◌}
+use Rattle.search_dump.proofs.Common.{shown, compared, beside}
 use Rattle.search_dump.proofs.RepeatLaws.{has-within, nearest-beside, some-given}
 use Rattle.search_dump.proofs.WindowLaws.{IsWithin}
 use Rattle.search_dump.proofs.matching.match_beside.Goals.{in-Forward, in-Back}
@@ -10,7 +10,7 @@ returns-in-Some-beside g c =
     let view = c.args.view.now in
     let pattern = c.args.pattern.now in
     let characters = chars pattern.text.now in
-    let text = compared pattern.ignores_case (shown (g.S.TextStore.content view.store.now) view.s view.e) in
+    let text = compared pattern.ignores_case (shown (part_of view)) in
     let place = c.args.place in
     let distance = c.in-Some.period.len in
     let at = c.in-Some-beside.beside in

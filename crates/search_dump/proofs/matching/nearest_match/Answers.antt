@@ -1,4 +1,4 @@
-use Rattle.search_dump.proofs.Common.{arith, chars, sym, ◌∙◌, searched}
+use Rattle.search_dump.proofs.Common.{part_of, arith, chars, sym, ◌∙◌, searched}
 use Rattle.search_dump.proofs.WindowLaws.{left-begun, left-found, left-on, nearest-nowhere}
 use Rattle.search_dump.proofs.matching.nearest_match.Goals as goal
 
@@ -22,5 +22,5 @@ loop-rest-preserved g c = record {
 pub returns : goal.returns
 returns g c =
     nearest-nowhere c.args.direction (chars c.args.pattern.now.text.now)
-    (searched g.S.TextStore.content c.args.view.now c.args.pattern.now) c.loop-rest.rest (omega arith)
+    (searched (part_of c.args.view.now) c.args.pattern.now) c.loop-rest.rest (omega arith)
     ∙ c.loop-rest.invariant.left.same

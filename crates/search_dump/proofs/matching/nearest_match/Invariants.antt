@@ -1,11 +1,11 @@
-use Rattle.search_dump.proofs.Common.{◌-◌, ◌<◌, chars, shown, compared}
+use Rattle.search_dump.proofs.Common.{part_of, ◌-◌, ◌<◌, chars, shown, compared}
 use Rattle.search_dump.proofs.WindowLaws.{IsLeft}
 use Rattle.search_dump.proofs.matching.nearest_match.Given as goal
 
 abbrev pub invariant-loop-rest : goal.invariant-loop-rest
 invariant-loop-rest g l = record {
   left : IsLeft l.direction (chars l.pattern.text.now)
-      (compared l.pattern.ignores_case (shown (g.S.TextStore.content l.view.store.now) l.view.s l.view.e)) l.fn.stretch
+      (compared l.pattern.ignores_case (shown (part_of l.view))) l.fn.stretch
       l.rest;
   some : 0 < l.most;
 }

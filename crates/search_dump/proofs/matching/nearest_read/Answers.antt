@@ -1,4 +1,4 @@
-use Rattle.search_dump.proofs.Common.{ap, arith, chars, sym, searched, text_in, ◌-◌}
+use Rattle.search_dump.proofs.Common.{part_of, shown, ap, arith, chars, sym, searched, ◌-◌}
 use Rattle.search_dump.proofs.WindowLaws.{IsWindow, nearest-within, read-none, read-some, window-read}
 use Rattle.search_dump.proofs.matching.nearest_read.Given.{Over}
 use Rattle.search_dump.proofs.matching.nearest_read.Goals.{After-as_str}
@@ -6,9 +6,9 @@ use Rattle.search_dump.proofs.matching.nearest_read.Goals as goal
 
 -- the part that is read
 part : (g : Over) (c : After-as_str g) → IsWindow (chars c.args.pattern.now.text.now)
-    (searched g.S.TextStore.content c.args.view.now c.args.pattern.now) (chars c.as_str.result.now) c.args.stretch.low
+    (searched (part_of c.args.view.now) c.args.pattern.now) (chars c.as_str.result.now) c.args.stretch.low
     (c.args.stretch.high - c.args.stretch.low) c.args.stretch.end
-part g c = window-read c.args.pattern.now.ignores_case (text_in g.S.TextStore.content c.args.view.now) c.args.stretch
+part g c = window-read c.args.pattern.now.ignores_case (shown (part_of c.args.view.now)) c.args.stretch
     c.args.pattern.now.counted c.requires.some c.requires.fits c.requires.within (ap chars c.as_str.ensures.value)
     c.in_ok-text.ensures
 
@@ -17,7 +17,7 @@ overflow_add-result g c =
     let found = read-some c.args.direction c.args.stretch c.requires.some
     (part g (goal.at.overflow_add-result g c).After-as_str) c.in-Some.ensures in
     let within = nearest-within c.args.direction (chars c.args.pattern.now.text.now)
-    (searched g.S.TextStore.content c.args.view.now c.args.pattern.now) c.args.stretch _ (sym found) in
+    (searched (part_of c.args.view.now) c.args.pattern.now) c.args.stretch _ (sym found) in
     omega arith
 
 pub returns-in-Some : goal.returns-in-Some

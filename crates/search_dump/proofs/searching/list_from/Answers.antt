@@ -1,4 +1,4 @@
-use Rattle.search_dump.proofs.Common.{◌-◌, ◌<◌, arith, chars, subst, sym, length-shown, searched, text_in}
+use Rattle.search_dump.proofs.Common.{part_of, shown, ◌-◌, ◌<◌, arith, chars, subst, sym, length-shown, searched}
 use Rattle.search_dump.proofs.ListedLaws.{IsNext, left-less, listing-begun, listing-done, listing-on, next-at}
 use Rattle.search_dump.proofs.WindowLaws.{length-compared}
 use Rattle.search_dump.proofs.searching.list_from.Given.{Over}
@@ -11,19 +11,19 @@ loop-next-init g c = listing-begun c.requires.first c.requires.high c.requires.w
 -- the match that comes next
 next : (g : Over) (c : In-Some g) →
     IsNext c.args.search.direction (chars c.args.pattern.now.text.now)
-    (searched g.S.TextStore.content c.args.view.now c.args.pattern.now) c.loop-next.rest c.in-Some.place
+    (searched (part_of c.args.view.now) c.args.pattern.now) c.loop-next.rest c.in-Some.place
 next g c =
-    let all = text_in g.S.TextStore.content c.args.view.now in
+    let all = shown (part_of c.args.view.now) in
     next-at c.loop-next.invariant c.in-Some.is (omega (arith, length-compared c.args.pattern.now.ignores_case all))
 
-pub push_place-requires-clause-within : goal.push_place-requires-clause-within
-push_place-requires-clause-within g c =
+pub push_place-requires : goal.push_place-requires
+push_place-requires g c =
     let view = c.args.view.now in
     omega (
       arith,
-      (next g (goal.at.push_place-requires-clause-within g c).In-Some).below,
+      (next g (goal.at.push_place-requires g c).In-Some).below,
       c.loop-next.invariant.high,
-      length-shown (g.S.TextStore.content view.store.now) view.s view.e c.requires.view,
+      length-shown (part_of view) view.whole_lines,
     )
 
 pub left_behind-rest-requires : goal.left_behind-rest-requires
@@ -37,7 +37,7 @@ left_behind-rest-requires g c =
       c.args.pattern.now.counted,
       c.loop-next.invariant.high,
       c.loop-next.invariant.end,
-      length-shown (g.S.TextStore.content view.store.now) view.s view.e c.requires.view,
+      length-shown (part_of view) view.whole_lines,
     )
 
 pub next_match-requires-clause-matches : goal.next_match-requires-clause-matches

@@ -1,11 +1,11 @@
-use Rattle.search_dump.proofs.Common.{◌-◌, chars, length, string_bytes, position_text, shown, compared, wanted_of}
-use Rattle.search_dump.proofs.Common.{matches_in}
+use Rattle.search_dump.proofs.Common.{part_of, ◌-◌, chars, length, string_bytes, position_text, shown, compared}
+use Rattle.search_dump.proofs.Common.{wanted_of, matches_in}
 use Rattle.search_dump.proofs.ListedLaws.{IsListing}
 use Rattle.search_dump.proofs.searching.list_from.Given as goal
 
 abbrev pub invariant-loop-next : goal.invariant-loop-next
 invariant-loop-next g l =
-    let all = shown (g.S.TextStore.content l.view.store.now) l.view.s l.view.e in
+    let all = shown (part_of l.view) in
     let pattern = chars l.pattern.text.now in
     let text = compared l.pattern.ignores_case all in
     IsListing l.search.wanted l.search.direction pattern text (position_text all)

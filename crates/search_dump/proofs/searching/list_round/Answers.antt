@@ -1,6 +1,6 @@
-use Rattle.search_dump.proofs.Common.{◌≡◌, ◌≤◌, None, Some, ap, ap₂, arith, chars, length, map, string_bytes, subst}
-use Rattle.search_dump.proofs.Common.{sym, ◌∙◌, OnOk, Goes, goes_nowhere, position_text, length-shown, searched}
-use Rattle.search_dump.proofs.Common.{text_in, left_to_list, second_stretch}
+use Rattle.search_dump.proofs.Common.{part_of, shown, ◌≡◌, ◌≤◌, None, Some, ap, ap₂, arith, chars, length, map}
+use Rattle.search_dump.proofs.Common.{string_bytes, subst, sym, ◌∙◌, OnOk, Goes, goes_nowhere, position_text}
+use Rattle.search_dump.proofs.Common.{length-shown, searched, left_to_list, second_stretch}
 use Rattle.search_dump.proofs.RoundLaws.{LiesIn, none-listed, rest-lies, rest-listed, round-lies}
 use Rattle.search_dump.proofs.searching.list_round.Given.{Over}
 use Rattle.search_dump.proofs.searching.list_round.Goals.{In-Some}
@@ -9,7 +9,7 @@ use Rattle.search_dump.proofs.searching.list_round.Goals as goal
 -- what is left of the stretch round the end of the text
 left : (g : Over) (c : In-Some g) → Some c.in-Some.rest
     ≡ left_to_list c.args.search.wanted c.args.search.direction (second_stretch c.args.search.direction
-    (length (text_in g.S.TextStore.content c.args.view.now)) c.args.from) c.args.listed
+    (length (shown (part_of c.args.view.now))) c.args.from) c.args.listed
     (length (chars c.args.pattern.now.text.now))
 left g c =
     sym c.in-Some.is ∙ c.left_to_list.ensures
@@ -18,14 +18,14 @@ left g c =
     c.args.pattern.now.counted
 
 lies : (g : Over) (c : In-Some g) →
-    LiesIn (length (text_in g.S.TextStore.content c.args.view.now)) c.in-Some.rest
+    LiesIn (length (shown (part_of c.args.view.now))) c.in-Some.rest
 lies g c =
     let view = c.args.view.now in
-    let len = length (text_in g.S.TextStore.content view) in
+    let len = length (shown (part_of view)) in
     let within : c.args.from ≤ len = omega (
       arith,
       c.requires.from,
-      length-shown (g.S.TextStore.content view.store.now) view.s view.e c.requires.view,
+      length-shown (part_of view) view.whole_lines,
     ) in
     rest-lies c.args.search.wanted c.args.search.direction (length (chars c.args.pattern.now.text.now)) c.args.listed
     (round-lies c.args.search.direction len c.args.from within) (left g c)
@@ -40,11 +40,11 @@ pub returns-in-Some : goal.returns-in-Some
 returns-in-Some g c =
     let view = c.args.view.now in
     let search = c.args.search in
-    let text = text_in g.S.TextStore.content view in
+    let text = shown (part_of view) in
     subst (λ places. OnOk c.list_stretch.result
     (Goes (string_bytes c.args.list.now) (string_bytes c.list_stretch.new.list) (map (position_text text) places)))
     (rest-listed search.wanted search.direction (chars c.args.pattern.now.text.now)
-    (searched g.S.TextStore.content view c.args.pattern.now)
+    (searched (part_of view) c.args.pattern.now)
     (second_stretch search.direction (length text) c.args.from) c.in-Some.rest c.args.listed
     (left g (goal.at.returns-in-Some g c).In-Some)) c.list_stretch.ensures
 
@@ -52,7 +52,7 @@ pub returns-in-None : goal.returns-in-None
 returns-in-None g c =
     let view = c.args.view.now in
     let search = c.args.search in
-    let text = text_in g.S.TextStore.content view in
+    let text = shown (part_of view) in
     let pattern = chars c.args.pattern.now.text.now in
     let whole = second_stretch search.direction (length text) c.args.from in
     let is : None ≡ left_to_list search.wanted search.direction whole c.args.listed (length pattern) =
@@ -62,5 +62,5 @@ returns-in-None g c =
     c.args.pattern.now.counted in
     subst (λ places. Goes (string_bytes c.args.list.now) (string_bytes c.args.list.now)
     (map (position_text text) places))
-    (none-listed search.wanted search.direction pattern (searched g.S.TextStore.content view c.args.pattern.now) whole
+    (none-listed search.wanted search.direction pattern (searched (part_of view) c.args.pattern.now) whole
     c.args.listed is) (goes_nowhere (string_bytes c.args.list.now))

@@ -1,5 +1,6 @@
-use Rattle.search_dump.proofs.Common.{ap, chars, encode_utf8_all, length, map, string_bytes, ◌∙◌, list_text, goes_all}
-use Rattle.search_dump.proofs.Common.{position_text, shown, bound, candidates, compared, matches_at, wanted_of}
+use Rattle.search_dump.proofs.Common.{part_of, ap, chars, encode_utf8_all, length, map, string_bytes, ◌∙◌, list_text}
+use Rattle.search_dump.proofs.Common.{goes_all, position_text, shown, bound, candidates, compared, matches_at}
+use Rattle.search_dump.proofs.Common.{wanted_of}
 use Rattle.std.specs.Prelude.{filter}
 use Rattle.search_dump.proofs.ListedLaws.{search-is}
 use Rattle.search_dump.proofs.searching.search.Goals as goal
@@ -7,7 +8,7 @@ use Rattle.search_dump.proofs.searching.search.Goals as goal
 pub returns : goal.returns
 returns g c =
     let view = c.args.view.now in
-    let all = shown (g.S.TextStore.content view.store.now) view.s view.e in
+    let all = shown (part_of view) in
     let search = c.args.search in
     let made = c.new-pattern.result in
     let pattern = chars made.text.now in

@@ -1,41 +1,41 @@
-use Rattle.text_index.proofs.Common.{◌≡◌, ◌<◌, ◌≤◌, ◌+◌, Some, refl, sym, arith, ◌∙◌, chars, IfOk, length-map, Cell}
-use Rattle.text_index.proofs.Common.{index_of, shown, is_word, shown_meanings, Err, Ok, length}
+use Rattle.text_index.proofs.Common.{part_of, ◌≡◌, ◌<◌, ◌≤◌, ◌+◌, Some, refl, sym, arith, ◌∙◌, chars, IfOk, length-map}
+use Rattle.text_index.proofs.Common.{Cell, index_of, shown, is_word, shown_meanings, Err, Ok, length}
 use Rattle.text_index.proofs.ViewLaws.{length-shown}
 use Rattle.text_index.proofs.BoundLaws.{shown-within, index_value-saturated, value_of-le}
 use Rattle.text_index.proofs.locating.locate.Goals as goal
 
 pub returns-clause-value : goal.returns-clause-value
 returns-clause-value g c =
-    let view = c.args.view.now in let names = c.args.names.now in let content = g.S.TextStore.content view.store.now in
-    let meanings = shown_meanings names.marks.now.marks names.tags.now.tags names.widget.0 content view.s view.e in
-    let text = shown content view.s view.e in
+    let view = c.args.view.now in let names = c.args.names.now in
+    let meanings = shown_meanings names.marks.now.marks names.tags.now.tags names.widget.0 (part_of view) in
+    let text = shown (part_of view) in
     let word = index_of meanings.marks meanings.tags (chars c.args.word.now) in
     let short : length text < 18446744073709551615 =
     omega (
       arith,
-      length-shown content view.s view.e c.requires.view,
-      c.requires.view.behind.within,
-      length-map content.cells (λ (cell : Cell). cell.character),
+      length-shown (part_of view) view.whole_lines,
+      view.whole_lines.behind.within,
+      length-map (part_of view).content.cells (λ (cell : Cell). cell.character),
       c.requires.room,
     ) in
     λ _. c.resolve.ensures.value
     ∙ index_value-saturated is_word meanings text word c.in_ok-index.index.base c.in_ok-index.index.modifiers short
-    (shown-within names.marks.now.marks names.tags.now.tags names.widget.0 content view.s view.e c.requires.view)
+    (shown-within names.marks.now.marks names.tags.now.tags names.widget.0 (part_of view) view.whole_lines)
     c.in_ok-index.ensures.ok
 
 pub returns-clause-within : goal.returns-clause-within
 returns-clause-within g c =
-    let view = c.args.view.now in let names = c.args.names.now in let content = g.S.TextStore.content view.store.now in
-    let meanings = shown_meanings names.marks.now.marks names.tags.now.tags names.widget.0 content view.s view.e in
-    let long = length-shown content view.s view.e c.requires.view in
-    let within = shown-within names.marks.now.marks names.tags.now.tags names.widget.0 content view.s view.e
-    c.requires.view in
-    elim c.resolve.result as (λ r. c.resolve.result ≡ r → IfOk r (λ place. view.s + place ≤ view.e)) [
+    let view = c.args.view.now in let names = c.args.names.now in
+    let meanings = shown_meanings names.marks.now.marks names.tags.now.tags names.widget.0 (part_of view) in
+    let long = length-shown (part_of view) view.whole_lines in
+    let within = shown-within names.marks.now.marks names.tags.now.tags names.widget.0 (part_of view)
+    view.whole_lines in
+    elim c.resolve.result as (λ r. c.resolve.result ≡ r → IfOk r (λ place. view.start + place ≤ view.end)) [
       | Ok place ↦ λ is. omega (
         arith,
         long,
-        c.requires.view.ordered,
-        value_of-le is_word meanings (shown content view.s view.e)
+        view.whole_lines.ordered,
+        value_of-le is_word meanings (shown (part_of view))
             (Some (c.in_ok-index.index.base, c.in_ok-index.index.modifiers)) within place (sym c.resolve.ensures.value
             ∙ is),
       )

@@ -1,38 +1,36 @@
-use Rattle.text_index.proofs.Common.{◌≡◌, ◌<◌, ◌+◌, ◌-◌, ◌^◌, min, sym, ◌∙◌, arith, characters, lines, line_of, shown}
+use Rattle.text_index.proofs.Common.{part_of, ◌≡◌, ◌<◌, ◌+◌, ◌-◌, ◌^◌, min, sym, ◌∙◌, arith, characters, lines, line_of}
+use Rattle.text_index.proofs.Common.{shown}
 use Rattle.text_index.proofs.ViewLaws.{some-line, length-shown, lines_on-is}
 use Rattle.text_index.proofs.moves.lines_on.Goals as goal
 
 pub overflow_sub-lines : goal.overflow_sub-lines
 overflow_sub-lines g c =
     let view = c.args.view.now in
-    let content = g.S.TextStore.content view.store.now in
-    let long = length-shown content view.s view.e c.requires.view in
-    let some : view.s < view.e = omega (arith, c.if-place-len.false, c.len.ensures, long, c.requires.within) in
+    let long = length-shown (part_of view) view.whole_lines in
+    let some : view.start < view.end = omega (arith, c.if-place-len.false, c.len.ensures, long, c.requires.within) in
     omega (
       arith,
       c.lines.ensures,
-      some-line (characters content.cells) view.s view.e c.requires.view.first
-          c.requires.view.behind some,
+      some-line (characters (part_of view).content.cells) view.start view.end view.whole_lines.first
+          view.whole_lines.behind some,
     )
 
-pub in_line-requires-clause-known : goal.in_line-requires-clause-known
-in_line-requires-clause-known g c =
+pub in_line-requires : goal.in_line-requires
+in_line-requires g c =
     let view = c.args.view.now in
-    let content = g.S.TextStore.content view.store.now in
-    let long = length-shown content view.s view.e c.requires.view in
-    let some : view.s < view.e = omega (arith, c.if-place-len.false, c.len.ensures, long, c.requires.within) in
+    let long = length-shown (part_of view) view.whole_lines in
+    let some : view.start < view.end = omega (arith, c.if-place-len.false, c.len.ensures, long, c.requires.within) in
     omega (
       arith,
       c.lines.ensures,
       c.min.ensures,
-      some-line (characters content.cells) view.s view.e c.requires.view.first c.requires.view.behind some,
+      some-line (characters (part_of view).content.cells) view.start view.end view.whole_lines.first view.whole_lines.behind some,
     )
 
 pub returns-clause-value : goal.returns-clause-value
 returns-clause-value g c =
     let view = c.args.view.now in
-    let content = g.S.TextStore.content view.store.now in
-    let text = shown content view.s view.e in
+    let text = shown (part_of view) in
     let moved = c.line_and_column-line in
     let small : lines text < 2 ^ 64 = omega (arith, c.lines.ensures, c.lines.type_inv) in
     let at_is : c.min.result ≡ min (line_of text c.args.place + c.args.count) (lines text - 1) =

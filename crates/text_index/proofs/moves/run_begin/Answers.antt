@@ -7,5 +7,5 @@ returns-clause-value g c =
     let view = c.args.view.now in
     let text = characters (g.S.TextStore.content view.store.now).cells in
     c.saturating_sub.ensures
-    ∙ run_start-part is_word text view.s view.e c.args.place c.run_start-start.result c.requires.within
-    c.requires.view.behind.within c.run_start-start.ensures.value
+    ∙ run_start-part is_word text view.start view.end c.args.place c.run_start-start.result c.requires.within
+    view.whole_lines.behind.within c.run_start-start.ensures.value

@@ -6,6 +6,6 @@ pub returns-clause-value : goal.returns-clause-value
 returns-clause-value g c =
     let view = c.args.view.now in
     let text = characters (g.S.TextStore.content view.store.now).cells in
-    ap (λ n. n - view.s) c.min.ensures
-    ∙ run_end-part is_word text view.s view.e c.args.place c.run_end-end.result c.requires.within
+    ap (λ n. n - view.start) c.min.ensures
+    ∙ run_end-part is_word text view.start view.end c.args.place c.run_end-end.result c.requires.within
     c.run_end-end.ensures.value

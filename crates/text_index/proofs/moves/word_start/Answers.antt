@@ -1,4 +1,4 @@
-use Rattle.text_index.proofs.Common.{◌<◌, length, sym, ◌∙◌, arith, shown, word_front, is_word}
+use Rattle.text_index.proofs.Common.{part_of, ◌<◌, length, sym, ◌∙◌, arith, shown, word_front, is_word}
 use Rattle.text_index.proofs.ViewLaws.{length-shown}
 use Rattle.text_index.proofs.MoveLaws.{front-of-run, moves, stays}
 use Rattle.text_index.proofs.moves.word_start.Goals as goal
@@ -6,17 +6,16 @@ use Rattle.text_index.proofs.moves.word_start.Goals as goal
 pub returns-then-place-len-clause-value : goal.returns-then-place-len-clause-value
 returns-then-place-len-clause-value g c =
     let view = c.args.view.now in
-    let text = shown (g.S.TextStore.content view.store.now) view.s view.e in
+    let text = shown (part_of view) in
     stays text c.args.place (word_front is_word text c.args.place) (c.if-place-len.true ∙ c.len.ensures)
 
 pub returns-clause-value : goal.returns-clause-value
 returns-clause-value g c =
     let view = c.args.view.now in
-    let content = g.S.TextStore.content view.store.now in
-    let text = shown content view.s view.e in
+    let text = shown (part_of view) in
     let within : c.args.place < length text = omega (
       arith,
-      length-shown content view.s view.e c.requires.view,
+      length-shown (part_of view) view.whole_lines,
       c.requires.within,
       c.if-place-len.false,
       c.len.ensures,

@@ -1,4 +1,4 @@
-use Rattle.text_index.proofs.Common.{sym, ap, ◌∙◌, and_later, shown_flags}
+use Rattle.text_index.proofs.Common.{part_of, shown, sym, ap, ◌∙◌, and_later, shown_flags}
 use Rattle.text_index.proofs.RangeLaws.{ranges_from-step}
 use Rattle.text_index.proofs.ranges.range_behind.Goals as goal
 
@@ -9,7 +9,7 @@ returns-clause-value g c =
 pub returns-clause-later : goal.returns-clause-later
 returns-clause-later g c =
     let view = c.args.view.now in
-    let shown = shown_flags c.args.slot.0 (g.S.TextStore.content view.store.now) view.s view.e in
+    let shown = shown_flags c.args.slot.0 (part_of view) in
     ranges_from-step shown c.args.place
     ∙ ap (and_later shown) (sym (c.range_at.ensures.value c.args.place c.start_behind-start.ensures.above
     c.start_behind-start.ensures.passed))

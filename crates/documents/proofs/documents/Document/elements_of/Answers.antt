@@ -1,28 +1,28 @@
-use Rattle.documents.proofs.Common.{ap, ◌∙◌, arith, list_text, dump_elements, seen_by, parts_of}
+use Rattle.documents.proofs.Common.{part_of, refl, ap, ◌∙◌, arith, list_text, dump_elements, seen_by, parts_of}
 use Rattle.documents.proofs.PartsLaws.{anchors-there, stand}
 use Rattle.documents.proofs.QueryLaws.{spelled}
 use Rattle.documents.proofs.SeenLaws.{seen-found}
-use Rattle.documents.proofs.ViewLaws.{IsSeen, length-found, ordered-found, see, view-found}
+use Rattle.documents.proofs.ViewLaws.{IsSeen, length-found, ordered-found, see-part, view-found}
 use Rattle.documents.proofs.documents.Document.elements_of.Given.{Over}
 use Rattle.documents.proofs.documents.Document.elements_of.Goals.{After-lined-view}
 use Rattle.documents.proofs.documents.Document.elements_of.Goals as goal
 
-pub view_of-requires : goal.view_of-requires
-view_of-requires g c =
+pub view_of-requires-clause-slot : goal.view_of-requires-clause-slot
+view_of-requires-clause-slot g c =
     anchors-there c.args.seat (stand c.self.invariant c.self.view_is) c.number-slot.ensures.value c.deref.ensures.value
+
+pub view_of-requires-clause-lines : goal.view_of-requires-clause-lines
+view_of-requires-clause-lines g c =
+    view-found (see-part {place = c.args.seat} (stand c.self.invariant c.self.view_is) c.number-slot.ensures.value
+    c.deref.ensures.value refl)
 
 -- the view of the widget
 seen : (g : Over) (c : After-lined-view g)
     → IsSeen (parts_of g.S.TextStore.content c.self.inside) c.args.self.now c.args.seat c.number-slot.result
-    (g.S.TextStore.content c.lined-view.result.store.now) c.lined-view.result.s c.lined-view.result.e
+    (g.S.TextStore.content c.lined-view.result.store.now) c.lined-view.result.start c.lined-view.result.end
 seen g c =
-    let found = c.view_of.ensures in
-    let lined = c.lined-view.ensures in
-    see (stand c.self.invariant c.self.view_is) c.number-slot.ensures.value c.deref.ensures.value
-    (lined.start ∙ found.start) (lined.end ∙ found.end) (lined.store ∙ found.store)
-
-pub dump-requires-clause-view : goal.dump-requires-clause-view
-dump-requires-clause-view g c = view-found (seen g (goal.at.dump-requires-clause-view g c).After-lined-view)
+    see-part (stand c.self.invariant c.self.view_is) c.number-slot.ensures.value c.deref.ensures.value
+    (c.lined-view.ensures ∙ c.view_of.ensures)
 
 pub dump-requires-clause-from : goal.dump-requires-clause-from
 dump-requires-clause-from g c =
@@ -40,7 +40,12 @@ returns g c =
     let found = c.lined-view.result in
     c.new.ensures
     ∙ spelled c.in_ok-dump.field-0 (dump_elements c.args.listed
-    (seen_by (g.S.TextStore.content found.store.now) found.s found.e old.tags.tags old.marks.marks c.number-slot.result)
+    (seen_by (record {
+      part = part_of found;
+      tags = old.tags.tags;
+      marks = old.marks.marks;
+      widget = c.number-slot.result;
+    }))
     c.args.from c.args.to) c.in_ok-dump.ensures
     ∙ ap (λ seen. list_text (dump_elements c.args.listed seen c.args.from c.args.to))
     (seen-found (seen g (goal.at.returns g c).After-lined-view))

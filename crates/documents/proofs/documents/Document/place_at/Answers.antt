@@ -1,26 +1,27 @@
-use Rattle.documents.proofs.Common.{length, ◌∙◌, chars, widget_at, parts_of, place_of, shown}
+use Rattle.documents.proofs.Common.{refl, length, ◌∙◌, chars, widget_at, parts_of, place_of, shown}
 use Rattle.documents.proofs.MeaningLaws.{found-within, gives-place, place-found}
 use Rattle.documents.proofs.PartsLaws.{anchors-there, stand}
-use Rattle.documents.proofs.ViewLaws.{IsSeen, length-found, see, view-found}
+use Rattle.documents.proofs.ViewLaws.{IsSeen, length-found, see-part, view-found}
 use Rattle.documents.proofs.documents.Document.place_at.Given.{Over}
 use Rattle.documents.proofs.documents.Document.place_at.Goals.{After-view_of-view}
 use Rattle.documents.proofs.documents.Document.place_at.Goals as goal
 
-pub view_of-view-requires : goal.view_of-view-requires
-view_of-view-requires g c =
+pub view_of-view-requires-clause-slot : goal.view_of-view-requires-clause-slot
+view_of-view-requires-clause-slot g c =
     anchors-there c.args.seat (stand c.self.invariant c.self.view_is) c.number-slot.ensures.value c.deref.ensures.value
+
+pub view_of-view-requires-clause-lines : goal.view_of-view-requires-clause-lines
+view_of-view-requires-clause-lines g c =
+    view-found (see-part {place = c.args.seat} (stand c.self.invariant c.self.view_is) c.number-slot.ensures.value
+    c.deref.ensures.value refl)
 
 -- the view of the widget
 seen : (g : Over) (c : After-view_of-view g)
     → IsSeen (parts_of g.S.TextStore.content c.self.inside) c.args.self.now c.args.seat c.number-slot.result
-    (g.S.TextStore.content c.view_of-view.result.store.now) c.view_of-view.result.s c.view_of-view.result.e
+    (g.S.TextStore.content c.view_of-view.result.store.now) c.view_of-view.result.start c.view_of-view.result.end
 seen g c =
-    let found = c.view_of-view.ensures in
-    see (stand c.self.invariant c.self.view_is) c.number-slot.ensures.value c.deref.ensures.value found.start found.end
-    found.store
-
-pub locate-requires-clause-view : goal.locate-requires-clause-view
-locate-requires-clause-view g c = view-found (seen g (goal.at.locate-requires-clause-view g c).After-view_of-view)
+    see-part (stand c.self.invariant c.self.view_is) c.number-slot.ensures.value c.deref.ensures.value
+    c.view_of-view.ensures
 
 pub returns-clause-value : goal.returns-clause-value
 returns-clause-value g c =
@@ -36,4 +37,4 @@ returns-clause-within g c =
     let found = c.view_of-view.result in
     let long = length-found (seen g (goal.at.returns-clause-within g c).After-view_of-view) in
     let most = length (shown c.args.self.now (widget_at c.args.self.now c.args.seat)) in
-    c.at_position.ensures.within most (found-within c.locate.result found.s found.e most long c.locate.ensures.within)
+    c.at_position.ensures.within most (found-within c.locate.result found.start found.end most long c.locate.ensures.within)

@@ -12,8 +12,8 @@ pub returns-then-view-found : goal.returns-then-view-found
 returns-then-view-found g c =
     let document = c.args.self.now in
     let seen = c.view_at-view in
-    mark-behind (stand c.self.invariant c.self.view_is) c.args.seat c.in-Shared.place c.number.result.0 seen.result.s
-    seen.result.e c.in-Some.found seen.ensures.start seen.ensures.end c.number.ensures
+    mark-behind (stand c.self.invariant c.self.view_is) c.args.seat c.in-Shared.place c.number.result.0 seen.result.start
+    seen.result.end c.in-Some.found seen.ensures.start seen.ensures.end c.number.ensures
     (sym c.mark_place.ensures.value ∙ c.in-Some.is) c.if-view-found.true
     ∙ ap (λ mark. is_some (mark_place document (widget_at document c.args.seat) (rank_of mark))) (sym c.in-Shared.is)
 
@@ -21,7 +21,7 @@ pub returns-else-view-found : goal.returns-else-view-found
 returns-else-view-found g c =
     let document = c.args.self.now in
     let seen = c.view_at-view in
-    mark-before (stand c.self.invariant c.self.view_is) c.args.seat c.in-Shared.place c.number.result.0 seen.result.s
+    mark-before (stand c.self.invariant c.self.view_is) c.args.seat c.in-Shared.place c.number.result.0 seen.result.start
     c.in-Some.found seen.ensures.start c.number.ensures (sym c.mark_place.ensures.value ∙ c.in-Some.is)
     (omega (arith, c.if-view-found.false))
     ∙ ap (λ mark. is_some (mark_place document (widget_at document c.args.seat) (rank_of mark))) (sym c.in-Shared.is)

@@ -1,23 +1,28 @@
-use Rattle.documents.proofs.Common.{◌≡◌, ◌-◌, length, refl, Ok, Err, IfOk, All, SpanFits, spans_of, widget_at, parts_of}
-use Rattle.documents.proofs.Common.{spans_shown}
+use Rattle.documents.proofs.Common.{Part, ap, ◌≡◌, ◌-◌, length, refl, Ok, Err, IfOk, All, SpanFits, spans_of, widget_at}
+use Rattle.documents.proofs.Common.{parts_of, spans_shown}
 use Rattle.documents.proofs.PartsLaws.{anchors-there, stand}
 use Rattle.documents.proofs.SpanLaws.{places-within, spans-found}
-use Rattle.documents.proofs.ViewLaws.{IsSeen, see-ends}
+use Rattle.documents.proofs.ViewLaws.{IsSeen, see-ends, see-part, view-found}
 use Rattle.documents.proofs.documents.Document.spans_at.Given.{Over}
 use Rattle.documents.proofs.documents.Document.spans_at.Goals.{After-view_of-view}
 use Rattle.documents.proofs.documents.Document.spans_at.Goals as goal
 
-pub view_of-view-requires : goal.view_of-view-requires
-view_of-view-requires g c =
+pub view_of-view-requires-clause-slot : goal.view_of-view-requires-clause-slot
+view_of-view-requires-clause-slot g c =
     anchors-there c.args.seat (stand c.self.invariant c.self.view_is) c.number.ensures.value c.deref.ensures.value
+
+pub view_of-view-requires-clause-lines : goal.view_of-view-requires-clause-lines
+view_of-view-requires-clause-lines g c =
+    view-found (see-part {place = c.args.seat} (stand c.self.invariant c.self.view_is) c.number.ensures.value
+    c.deref.ensures.value refl)
 
 -- the view of the widget
 seen : (g : Over) (c : After-view_of-view g)
     → IsSeen (parts_of g.S.TextStore.content c.self.inside) c.args.self.now c.args.seat c.number.result
-    (g.S.TextStore.content c.self.inside.text.store) c.view_of-view.result.s c.view_of-view.result.e
+    (g.S.TextStore.content c.self.inside.text.store) c.view_of-view.result.start c.view_of-view.result.end
 seen g c =
     see-ends (stand c.self.invariant c.self.view_is) c.number.ensures.value c.deref.ensures.value
-    c.view_of-view.ensures.start c.deref.ensures.value refl c.view_of-view.ensures.end
+    (ap (λ (part : Part). part.start) c.view_of-view.ensures) c.deref.ensures.value refl (ap (λ (part : Part). part.end) c.view_of-view.ensures)
 
 pub spans_of-requires-clause-within : goal.spans_of-requires-clause-within
 spans_of-requires-clause-within g c =
@@ -29,7 +34,7 @@ returns-clause-value g c =
     let sight = seen g (goal.at.returns-clause-value g c).After-view_of-view in
     let view = c.view_of-view.result in
     elim c.spans_of.result as (λ result. IfOk result (λ spans. spans.items
-    ≡ spans_of view.s (view.e - view.s) c.args.places.now)
+    ≡ spans_of view.start (view.end - view.start) c.args.places.now)
     → IfOk result (λ spans. spans.items
     ≡ spans_shown c.args.self.now (widget_at c.args.self.now c.args.seat) c.args.places.now)) [
       | Ok spans ↦ λ is. (spans-found c.args.places.now sight c.requires.within is).same
@@ -41,7 +46,7 @@ returns-clause-fit g c =
     let sight = seen g (goal.at.returns-clause-fit g c).After-view_of-view in
     let view = c.view_of-view.result in
     elim c.spans_of.result as (λ result. IfOk result (λ spans. spans.items
-    ≡ spans_of view.s (view.e - view.s) c.args.places.now)
+    ≡ spans_of view.start (view.end - view.start) c.args.places.now)
     → IfOk result (λ spans. All (SpanFits (length c.args.self.now.cells)) spans.items)) [
       | Ok spans ↦ λ is. (spans-found c.args.places.now sight c.requires.within is).fit
       | Err fault ↦ λ _. tt

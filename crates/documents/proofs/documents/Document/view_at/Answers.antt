@@ -1,25 +1,27 @@
-use Rattle.documents.proofs.Common.{parts_of}
+use Rattle.documents.proofs.Common.{refl, parts_of}
 use Rattle.documents.proofs.PartsLaws.{anchors-there, stand}
-use Rattle.documents.proofs.ViewLaws.{IsSeen, end-found-is, length-found, see, shown-found, start-found-is, view-found}
+use Rattle.documents.proofs.ViewLaws.{IsSeen, end-found-is, length-found, see-part, shown-found, start-found-is}
+use Rattle.documents.proofs.ViewLaws.{view-found}
 use Rattle.documents.proofs.documents.Document.view_at.Given.{Over}
 use Rattle.documents.proofs.documents.Document.view_at.Goals.{After-view_of}
 use Rattle.documents.proofs.documents.Document.view_at.Goals as goal
 
-pub view_of-requires : goal.view_of-requires
-view_of-requires g c =
+pub view_of-requires-clause-slot : goal.view_of-requires-clause-slot
+view_of-requires-clause-slot g c =
     anchors-there c.args.seat (stand c.self.invariant c.self.view_is) c.number.ensures.value c.deref.ensures.value
+
+pub view_of-requires-clause-lines : goal.view_of-requires-clause-lines
+view_of-requires-clause-lines g c =
+    view-found (see-part {place = c.args.seat} (stand c.self.invariant c.self.view_is) c.number.ensures.value
+    c.deref.ensures.value refl)
 
 -- the view of the widget
 seen : (g : Over) (c : After-view_of g)
     → IsSeen (parts_of g.S.TextStore.content c.self.inside) c.args.self.now c.args.seat c.number.result
-    (g.S.TextStore.content c.view_of.result.store.now) c.view_of.result.s c.view_of.result.e
+    (g.S.TextStore.content c.view_of.result.store.now) c.view_of.result.start c.view_of.result.end
 seen g c =
-    let found = c.view_of.ensures in
-    see (stand c.self.invariant c.self.view_is) c.number.ensures.value c.deref.ensures.value found.start found.end
-    found.store
-
-pub returns-clause-lines : goal.returns-clause-lines
-returns-clause-lines g c = view-found (seen g (goal.at.returns-clause-lines g c).After-view_of)
+    see-part (stand c.self.invariant c.self.view_is) c.number.ensures.value c.deref.ensures.value
+    c.view_of.ensures
 
 pub returns-clause-text : goal.returns-clause-text
 returns-clause-text g c = shown-found (seen g (goal.at.returns-clause-text g c).After-view_of)

@@ -1,4 +1,4 @@
-use Rattle.search_dump.proofs.Common.{arith, cases_eq, cases_lt, inl, inr, subst, sym, IsChangeKnown}
+use Rattle.search_dump.proofs.Common.{outlook, IsKnown, arith, cases_eq, cases_lt, inl, inr, subst, sym}
 use Rattle.search_dump.proofs.tag_changes.TagChanges.pass.Goals as goal
 
 pub loop-at-init : goal.loop-at-init
@@ -13,7 +13,7 @@ loop-at-init g c = record {
 pub loop-at-preserved : goal.loop-at-preserved
 loop-at-preserved g c = record {
   known = λ k below which. elim (cases_eq k c.loop-at.at) [
-    | inl same ↦ subst (IsChangeKnown g.S.TextStore.content c.args.view.now c.args.names.now c.args.place
+    | inl same ↦ subst (IsKnown (outlook c.args.sight.now) c.args.place
         c.look.new.self.next.items) (sym same) c.look.ensures.known
     | inr other ↦ c.look.ensures.keeps k (c.loop-at.invariant.known k below (elim which [
       | inl outside ↦ inl outside

@@ -4,17 +4,17 @@ use Rattle.text_index.proofs.views.View.line_start.Goals as goal
 
 pub returns-then-number-lines-clause-value : goal.returns-then-number-lines-clause-value
 returns-then-number-lines-clause-value g c =
-    sym (none-shown c.requires c.args.line c.first_line.ensures c.saturating_add-number.ensures c.lines.ensures
+    sym (none-shown c.args.self.now.whole_lines c.args.line c.first_line.ensures c.saturating_add-number.ensures c.lines.ensures
     c.if-number-lines.true).1
 
 pub overflow_sub-result-2 : goal.overflow_sub-result-2
 overflow_sub-result-2 g c =
-    let number = number-is c.requires c.args.line c.first_line.ensures c.saturating_add-number.ensures c.lines.ensures
+    let number = number-is c.args.self.now.whole_lines c.args.line c.first_line.ensures c.saturating_add-number.ensures c.lines.ensures
     c.lines.type_inv c.if-number-lines.false in
-    omega (arith, begins-after c.requires number c.line_start.ensures.value, c.min.ensures, c.requires.ordered)
+    omega (arith, begins-after c.args.self.now.whole_lines number c.line_start.ensures.value, c.min.ensures, c.args.self.now.whole_lines.ordered)
 
 pub returns-clause-value : goal.returns-clause-value
 returns-clause-value g c =
-    let number = number-is c.requires c.args.line c.first_line.ensures c.saturating_add-number.ensures c.lines.ensures
+    let number = number-is c.args.self.now.whole_lines c.args.line c.first_line.ensures c.saturating_add-number.ensures c.lines.ensures
     c.lines.type_inv c.if-number-lines.false in
-    omega (arith, begins-at c.requires number c.line_start.ensures.value, c.min.ensures)
+    omega (arith, begins-at c.args.self.now.whole_lines number c.line_start.ensures.value, c.min.ensures)

@@ -4,13 +4,13 @@ use Rattle.text_index.proofs.views.View.start_at.Goals as goal
 
 pub overflow_sub-result : goal.overflow_sub-result
 overflow_sub-result g c =
-    (place-start c.requires.view c.args.place c.line_at.result c.line_at.ensures c.requires.within).0
+    (place-start c.args.self.now.whole_lines c.args.place c.line_at.result c.line_at.ensures c.requires.within).0
 
 pub returns-clause-value : goal.returns-clause-value
 returns-clause-value g c =
-    (place-start c.requires.view c.args.place c.line_at.result c.line_at.ensures c.requires.within).2
+    (place-start c.args.self.now.whole_lines c.args.place c.line_at.result c.line_at.ensures c.requires.within).2
 
 pub returns-clause-bound : goal.returns-clause-bound
 returns-clause-bound g c =
-    let begins = place-start c.requires.view c.args.place c.line_at.result c.line_at.ensures c.requires.within in
+    let begins = place-start c.args.self.now.whole_lines c.args.place c.line_at.result c.line_at.ensures c.requires.within in
     omega (arith, begins.0, begins.1, c.requires.within)
