@@ -9,7 +9,7 @@ use Rattle.command_effects.specs.declared.answers.Answer.{Answer}
 use Rattle.command_effects.specs.declared.answers.Fault.{Fault}
 use Rattle.peers.specs.Step.{step, Makes}
 use Rattle.peers.specs.World.{World}
-use Rattle.printing.specs.Lines.{piece}
+use Rattle.script_cli.specs.Lines.{piece}
 use Rattle.handles.proofs.CallLaws.{turns-on}
 use Rattle.command_effects.specs.declared.answers.Fault.TheVariants as fault
 use Rattle.handles.specs.declared.ends.Given.TheVariants as given

@@ -10,7 +10,7 @@ use Rattle.command_effects.specs.declared.answers.Fault.TheVariants as fault
 use Rattle.peers.specs.History.{can_redo_by, can_undo_by}
 use Rattle.peers.specs.Step.{step}
 use Rattle.peers.specs.World.{World}
-use Rattle.printing.specs.Lines.{piece}
+use Rattle.script_cli.specs.Lines.{piece}
 use Rattle.script_cli.specs.Run.{last_piece}
 use Rattle.handles.specs.declared.ends.Given.{Given}
 use Rattle.handles.specs.declared.ends.Given.TheVariants as given

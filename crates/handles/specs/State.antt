@@ -8,7 +8,7 @@ use Rattle.documents.specs.declared.mark_lists.MarkChange.{MarkChange}
 use Rattle.reports.specs.declared.tag_lists.TagChange.{TagChange}
 use Rattle.peers.specs.Windows.{Homes}
 use Rattle.peers.specs.World.{World}
-use Rattle.printing.specs.Lines.{piece}
+use Rattle.script_cli.specs.Lines.{piece}
 use Rattle.script_cli.specs.Run.{last_piece, no_documents}
 use Rattle.handles.specs.declared.report.Report.{Report}
 use Rattle.handles.specs.declared.session.Said.{Said}

@@ -1,9 +1,9 @@
 //! The room that C gives for a text.
 ghost use Rattle.std.specs.Prelude.{◌≡◌, ◌≤◌, ◌++◌, List, ℕ, length, min, take, drop};
-ghost use Rattle.printing.specs.Lines.{printed};
+ghost use Rattle.script_cli.specs.Lines.{printed};
 ghost use Rattle.handles.specs.Room.{over, Copied};
 
-use printing::Line;
+use script_cli::Line;
 
 /// Copies a line to the front of the room, as far as it goes, and gives the length of it all.
 pub(crate) fn copy_line(line: &Line, room: &mut [u8]) -> usize

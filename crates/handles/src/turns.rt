@@ -2,7 +2,7 @@
 ghost use Rattle.std.specs.Prelude.{◌≡◌, ◌≢◌, ◌<◌, true, false, if◌then◌else◌, [], Some, min, length, vec_len};
 ghost use Rattle.std.specs.Prelude.{chars, encode_utf8_all};
 ghost use Rattle.tcl_words.specs.Unread.{texts_of};
-ghost use Rattle.printing.specs.Lines.{piece};
+ghost use Rattle.script_cli.specs.Lines.{piece};
 ghost use Rattle.handles.specs.Calls.{Called, Fed, Gives, Tells, Turns, can_by, finished, given_of, status_after};
 ghost use Rattle.peers.specs.Concerned.{homes_asked};
 ghost use Rattle.handles.specs.Told.{CalledTold, Concerns, GivesTold, TurnsTold, concerns, untold};
@@ -16,7 +16,7 @@ use crate::room::{copy_line, copy_whole};
 use crate::session::{Said, Session};
 use crate::words::{WordsFault, read_words};
 use peers::{Answer, Fault, Windows, World};
-use printing::Line;
+use script_cli::Line;
 use std::alloc::Global;
 use std::mem;
 use tcl_words::{ScriptFault, Splitter};

@@ -1,5 +1,6 @@
 mod HarmlessLaws
 pub mod Common
+pub mod LineLaws
 pub mod RunLaws
 mod SameLaws
 pub mod SendingLaws

@@ -4,7 +4,7 @@ use Rattle.tcl_words.specs.declared.fault.ScriptFault.{ScriptFault}
 use Rattle.peers.specs.Laws.{after_all}
 use Rattle.peers.specs.Step.{step}
 use Rattle.peers.specs.World.{World}
-use Rattle.printing.specs.Lines.{memory_line, piece}
+use Rattle.script_cli.specs.Lines.{memory_line, piece}
 use Rattle.script_cli.specs.Run.{run_output, refused_count}
 
 -- the plain run: its output, and the number of commands that it refuses

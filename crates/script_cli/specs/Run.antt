@@ -9,7 +9,7 @@ use Rattle.peers.specs.World.{World}
 use Rattle.peers.specs.Step.{step}
 use Rattle.script_cli.specs.declared.summary.RunSummary.{RunSummary}
 use Rattle.devices.specs.Devices.{ReadLog, WriteLog, HandsOut, Takes}
-use Rattle.printing.specs.Lines.{piece, error_line, script_fault_text}
+use Rattle.script_cli.specs.Lines.{piece, error_line, script_fault_text}
 
 -- the world before the first command
 abbrev pub no_documents : LimitTable → World

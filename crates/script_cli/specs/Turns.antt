@@ -7,7 +7,7 @@ use Rattle.peers.specs.World.{World}
 use Rattle.peers.specs.Step.{step}
 use Rattle.script_cli.specs.declared.turns.Met.{Met}
 use Rattle.script_cli.specs.declared.turns.Met.TheVariants.{Answer, Refusal, Fault, End}
-use Rattle.printing.specs.Lines.{piece}
+use Rattle.script_cli.specs.Lines.{piece}
 use Rattle.script_cli.specs.Run.{last_piece}
 
 -- from old to new a command is carried out, or refused for memory, and this is printed

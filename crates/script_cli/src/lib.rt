@@ -2,6 +2,7 @@
 #![tactic(auto)]
 
 pub mod laws;
+mod lines;
 mod output;
 mod reading;
 mod running;
@@ -9,5 +10,6 @@ mod summary;
 mod turns;
 
 pub use devices::{ByteSink, ByteSource, Watched};
+pub use lines::Line;
 pub use running::run;
 pub use summary::{RunFault, RunSummary, outcome};

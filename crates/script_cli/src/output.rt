@@ -1,11 +1,11 @@
 //! A fixed buffer of output that is written when it is full or flushed.
 
 ghost use Rattle.std.specs.Prelude.{◌≡◌, ◌+◌, ◌≤◌, [], ◌++◌, true, false, not, nat_le, length};
-ghost use Rattle.printing.specs.Lines.{printed};
+ghost use Rattle.script_cli.specs.Lines.{printed};
 ghost use Rattle.script_cli.specs.Sending.{Sends, Gathers};
 
+use crate::lines::Line;
 use devices::ByteSink;
-use printing::Line;
 use std::marker::Model;
 
 /// Writes all of the bytes, and answers false where the writer fails before their end.

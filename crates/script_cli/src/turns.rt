@@ -7,10 +7,10 @@ ghost use Rattle.script_cli.specs.Run.{last_piece};
 ghost use Rattle.script_cli.specs.Sending.{Gathers};
 ghost use Rattle.script_cli.specs.Turns.{Replies, Meets, goes_on, is_fault, is_refusal};
 
+use crate::lines::Line;
 use crate::output::Output;
 use devices::ByteSink;
 use peers::{Answer, Fault, World};
-use printing::Line;
 use tcl_words::{ScriptFault, Splitter};
 use text_model::TextStore;
 

@@ -1,7 +1,6 @@
-use Rattle.std.proofs.Common.{ap, ◌∙◌}
-use Rattle.printing.specs.Lines.{printed}
-use Rattle.printing.proofs.LineLaws.{five_texts}
-use Rattle.printing.proofs.lines.Line.parts.Goals as goal
+use Rattle.script_cli.proofs.Common.{ap, ◌∙◌, printed}
+use Rattle.script_cli.proofs.LineLaws.{five_texts}
+use Rattle.script_cli.proofs.lines.Line.parts.Goals as goal
 
 pub returns : goal.returns
 returns c =

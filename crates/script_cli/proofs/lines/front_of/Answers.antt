@@ -1,7 +1,6 @@
-use Rattle.std.proofs.Common.{refl}
-use Rattle.std.proofs.lemmas.Bool.{false≢true}
-use Rattle.printing.proofs.LineLaws.{front-some, front-none}
-use Rattle.printing.proofs.lines.front_of.Goals as goal
+use Rattle.script_cli.proofs.Common.{refl, false≢true}
+use Rattle.script_cli.proofs.LineLaws.{front-some, front-none}
+use Rattle.script_cli.proofs.lines.front_of.Goals as goal
 
 pub returns-in-Some : goal.returns-in-Some
 returns-in-Some c = front-some c.args.word.now c.in-Some.front.now c.args.len c.utf8.word

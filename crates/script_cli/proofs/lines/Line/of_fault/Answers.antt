@@ -1,7 +1,5 @@
-use Rattle.std.proofs.Common.{sym, ap, ◌∙◌}
-use Rattle.tcl_words.specs.Unread.{texts_of}
-use Rattle.printing.specs.Lines.{fault_line}
-use Rattle.printing.proofs.lines.Line.of_fault.Goals as goal
+use Rattle.script_cli.proofs.Common.{sym, ap, ◌∙◌, texts_of, fault_line}
+use Rattle.script_cli.proofs.lines.Line.of_fault.Goals as goal
 
 pub returns-in-NoSuchTag : goal.returns-in-NoSuchTag
 returns-in-NoSuchTag c =

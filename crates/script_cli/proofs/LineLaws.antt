@@ -1,16 +1,12 @@
 -- The characters of what is printed.
-use Rattle.std.proofs.Common.{◌≡◌, ℕ, ◌<◌, ◌≤◌, true, false, take, arith, List, [], ◌∷◌, ◌++◌, length, get_or, String}
-use Rattle.std.proofs.Common.{string_bytes, encode_utf8_all, codes, refl, sym, ap, ◌∙◌, append_assoc}
+use Rattle.script_cli.proofs.Common.{◌≡◌, ℕ, ◌<◌, ◌≤◌, true, false, take, arith, List, [], ◌∷◌, ◌++◌, length, get_or}
+use Rattle.script_cli.proofs.Common.{String, string_bytes, encode_utf8_all, codes, refl, sym, ap, ◌∙◌, append_assoc}
+use Rattle.script_cli.proofs.Common.{if◌then◌else◌, common_steps, append-nil, get_or-map, encodes-append, encodes-chars}
+use Rattle.script_cli.proofs.Common.{texts_of, error_line, word_at, is_boundary, front_of}
 use Rattle.std.specs.Str.{chars, IsUtf8, IsCharBoundary}
-use Rattle.std.specs.Prelude.{if◌then◌else◌}
 use Rattle.std.proofs.lemmas.Bool.Decides.{nat_tests}
 use Rattle.std.proofs.Math.ListN.{get_or-eq_default}
-use Rattle.std.proofs.lemmas.Grind.{common_steps}
-use Rattle.std.proofs.lemmas.List.{append-nil, get_or-map}
-use Rattle.std.proofs.lemmas.Str.{encodes-append, encodes-chars}
-use Rattle.tcl_words.specs.Unread.{texts_of}
 use Rattle.command_effects.specs.Words.{literal}
-use Rattle.printing.specs.Lines.{error_line, word_at, is_boundary, front_of}
 
 -- a text alone
 pub alone_text : (text line : List ℕ) → text ≡ line

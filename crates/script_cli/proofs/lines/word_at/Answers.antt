@@ -1,5 +1,5 @@
-use Rattle.printing.proofs.LineLaws.{word_characters, no_word}
-use Rattle.printing.proofs.lines.word_at.Goals as goal
+use Rattle.script_cli.proofs.LineLaws.{word_characters, no_word}
+use Rattle.script_cli.proofs.lines.word_at.Goals as goal
 
 pub returns-in-Some : goal.returns-in-Some
 returns-in-Some c =

@@ -1,8 +1,7 @@
-use Rattle.std.proofs.Common.{ap, ◌∙◌}
-use Rattle.printing.specs.Lines.{line_text}
-use Rattle.printing.proofs.LineLaws.{alone_text, no_close_brace, no_quote, more_after_brace, more_after_quote}
-use Rattle.printing.proofs.LineLaws.{no_substitution, not_utf8, bad_code, no_memory}
-use Rattle.printing.proofs.lines.Line.of_script_fault.Goals as goal
+use Rattle.script_cli.proofs.Common.{ap, ◌∙◌, line_text}
+use Rattle.script_cli.proofs.LineLaws.{alone_text, no_close_brace, no_quote, more_after_brace, more_after_quote}
+use Rattle.script_cli.proofs.LineLaws.{no_substitution, not_utf8, bad_code, no_memory}
+use Rattle.script_cli.proofs.lines.Line.of_script_fault.Goals as goal
 
 pub returns-in-MissingBrace : goal.returns-in-MissingBrace
 returns-in-MissingBrace c = rw c.in-MissingBrace.is (ap line_text c.alone.ensures ∙ alone_text _ _ no_close_brace)

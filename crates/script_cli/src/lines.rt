@@ -3,9 +3,9 @@
 ghost use Rattle.std.specs.Prelude.{◌≡◌, ◌++◌, Ok, Err, chars};
 ghost use Rattle.tcl_words.specs.Unread.{texts_of};
 ghost use Rattle.command_effects.specs.Words.{literal};
-ghost use Rattle.printing.specs.Lines.{piece, fault_line, error_line, line_text, printed, script_fault_text};
-ghost use Rattle.printing.specs.Lines.{answer_text as spec_answer_text, word_at as spec_word_at};
-ghost use Rattle.printing.specs.Lines.{front_of as spec_front_of};
+ghost use Rattle.script_cli.specs.Lines.{piece, fault_line, error_line, line_text, printed, script_fault_text};
+ghost use Rattle.script_cli.specs.Lines.{answer_text as spec_answer_text, word_at as spec_word_at};
+ghost use Rattle.script_cli.specs.Lines.{front_of as spec_front_of};
 
 use command_effects::{Answer, Fault};
 use std::marker::Model;
@@ -24,7 +24,7 @@ pub struct Line<'a> {
 
 impl<'a> Model for Line<'a> {
     ghost use Rattle.std.specs.Prelude.{chars, IsUtf8};
-    ghost use Rattle.printing.specs.Lines.{Line as LineText};
+    ghost use Rattle.script_cli.specs.Lines.{Line as LineText};
 
     ghost Value = { LineText };
 
