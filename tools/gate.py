@@ -43,7 +43,7 @@ PAUSE_SECONDS = 0.2
 TICKS_PER_SECOND = os.sysconf("SC_CLK_TCK")
 KINDS = ("check", "tests", "edits", "wrong")
 # The crate whose check is the yardstick, which stands on none other, and how often it runs.
-YARDSTICK, YARDSTICK_PAUSE_SECONDS = "devices", 240
+YARDSTICK, YARDSTICK_PAUSE_SECONDS = "name_list", 480
 PROVED = re.compile(r"^(?:fn|struct) .*: proved$")
 
 

@@ -40,7 +40,7 @@ ANNOTATED = re.compile(r"^\s*([\d,]+) \([ \d.]+%\)\s+(.*)$")
 CRATE = re.compile(r"\?\?\?:(\w+)::")
 # What our instructions are spent on: crates, by the function that they were compiled into, and the C library's calls.
 PARTS = {
-    "words": ("tcl_words", "tktext", "script_cli", "devices"),
+    "words": ("tcl_words", "tktext", "script_cli"),
     "commands": ("peers", "documents", "command_table", "name_list", "indexmap"),
     "places": ("text_index", "index_grammar", "mark_table", "tag_table", "search_dump"),
     "edits": ("edit_ops", "command_effects", "undo_stack", "text_cursor"),

@@ -1,5 +1,5 @@
 #!/usr/bin/env python3
-"""Tries tools/wrong.py: what counts as refused, on the prover's words as they are here, and on the crate `devices`.
+"""Tries tools/wrong.py: what counts as refused, on the prover's words as they are here, and on the crate `name_list`.
 
     python3 tools/wrong_test.py [--libraries FOLDER]
 
@@ -15,83 +15,83 @@ import build
 import wrong
 from harness import Tally
 
-CRATE = "devices"
-WRITE, TAKEN = "watched::sink::WatchedByteSink::write", "watched::sink::taken"
-PROOFS = "Rattle.devices.proofs.watched.sink"
+CRATE = "name_list"
+NEXT, ADD = "places::next_free", "places::add_place"
+PROOFS = "Rattle.name_list.proofs.places"
 # Edits of the crate: one that is refused, and three that are not.
 EDITS = {
-    "wrong_body": f"""# refused: {WRITE} at returns-in-Some-clause-bytes
-file: src/watched/sink.rt
-old: self.passed.step(&bytes[..count]);
-new: let _ = &self.passed;
+    "wrong_body": f"""# refused: {NEXT} at loop-number-preserved
+file: src/places.rt
+old: places[number].is_some()
+new: places[number].is_none()
 """,
-    "same_meaning": f"""# refused: {TAKEN}
-file: src/watched/sink.rt
-old: if count > 0 || offered == 0 => Some(count),
-new: if offered == 0 || count > 0 => Some(count),
+    "same_meaning": f"""# refused: {ADD}
+file: src/places.rt
+old: if number == places.len() {{
+new: if places.len() == number {{
 """,
-    "no_such_name": """# refused: watched::source::WatchedByteSource::read
-file: src/watched/source.rt
-old: self.failed = true;
-new: self.failed = no_such_name;
+    "no_such_name": """# refused: names::NameList::take_out
+file: src/names.rt
+old: self.free = self.free.min(number as usize);
+new: self.free = self.free.min(no_such_name);
 """,
-    "no_such_text": f"""# refused: {TAKEN}
-file: src/watched/sink.rt
+    "no_such_text": f"""# refused: {ADD}
+file: src/places.rt
 old: no_such_text
 new: _
 """,
 }
 FAULTS = {
     "wrong_body": None,
-    "same_meaning": f"{TAKEN} isn't refused",
+    "same_meaning": f"{ADD} isn't refused",
     "no_such_name": "it doesn't compile",
     "no_such_text": "it doesn't apply",
 }
-# What the prover says of `write`, and the goals of its own at which it is refused by that.
+# What the prover says of `next_free`, and the goals of its own at which it is refused by that.
 VERDICTS = {
     "no holes": [],
-    "depends on a hole in `{taken}.Proof.taken_spec`": [],
-    "not proved; it calls `devices::watched::sink::taken`, which is not proved": [],
-    "not proved; it stands on `{taken}.Answers.returns`, which antt refuses": [],
-    "not proved; it stands on `{write}.Answers.returns`, which antt refuses": ["returns"],
-    "not proved; it stands on `{write}.Answers.gone`, `{write}.Answers.both`, which antt refuses": ["both"],
+    "depends on a hole in `{add}.Proof.add_place_spec`": [],
+    "not proved; it calls `name_list::places::add_place`, which is not proved": [],
+    "not proved; it stands on `{add}.Answers.returns`, which antt refuses": [],
+    "not proved; it stands on `{next}.Answers.returns`, which antt refuses": ["returns"],
+    "not proved; it stands on `{next}.Answers.gone`, `{next}.Answers.both`, which antt refuses": ["both"],
     "not proved; it stands on `{itself}.Invariants.loop`, `{itself}.Answers.gone`, which antt refuses": ["loop"],
     "no proof: `search` did not prove `first`, `second`": ["first", "second"],
-    "no proof: `search` did not prove `first`; it calls `{taken}`, which is not proved": ["first"],
+    "no proof: `search` did not prove `first`; it calls `{add}`, which is not proved": ["first"],
 }
 # Errors in its proof: at the goal `gone` no more than that a name is gone, at `both` also another.
-ANSWERS = "./proofs/watched/sink/WatchedByteSink/write/Answers.antt"
+ANSWERS = "./proofs/places/next_free/Answers.antt"
 ERRORS = f"""\
-{ANSWERS.replace("/write/", "/+write/")}:3:9: error: `gone`: `goal.Case` has no field `count`
+{ANSWERS.replace("/next_free/", "/+next_free/")}:3:9: error: `gone`: `goal.Case` has no field `count`
 {ANSWERS}:3:9: error: `gone`: `goal.Case` has no field `count`
 {ANSWERS}:5:9: error: `both`: `goal.Case` has no field `count`
 {ANSWERS}:6:9: error: `both`: the two types differ
-fn devices::watched::sink::taken: no proof: `search` did not prove `returns`
+fn name_list::places::add_place: no proof: `search` did not prove `returns`
 """
 
 
 def check_verdicts(tally):
     """A function counts as refused at goals of its own alone."""
     for verdict, goals in VERDICTS.items():
-        write = f"{PROOFS}.WatchedByteSink.write"
-        text = verdict.format(taken=f"{PROOFS}.taken", write=write, itself=write.replace(".write", ".+write"))
-        found = wrong.refused_goals(CRATE, {WRITE}, f"{ERRORS}fn devices::{WRITE}: {text}\n")
-        tally.check(found == {WRITE: goals}, f"{text}: refused at {found}, and not at {goals}")
+        names = {"next": "next_free", "itself": "+next_free", "add": "add_place"}
+        text = verdict.format(**{key: f"{PROOFS}.{name}" for key, name in names.items()})
+        found = wrong.refused_goals(CRATE, {NEXT}, f"{ERRORS}fn {CRATE}::{NEXT}: {text}\n")
+        tally.check(found == {NEXT: goals}, f"{text}: refused at {found}, and not at {goals}")
 
 
 def edit_of(function, old, new):
-    return wrong.read_edit(new, f"# refused: {function}\nfile: src/watched/sink.rt\nold: {old}\nnew: {new}\n")
+    return wrong.read_edit(new, f"# refused: {function}\nfile: src/places.rt\nold: {old}\nnew: {new}\n")
 
 
 def check_batches(tally):
     """Two edits share a check unless they can't be told apart, or change one line."""
-    first, second = "self.failed = true;", "if self.failed {"
+    first, second = "needed -= 1;", "number += 1;"
     cases = [
-        ("two functions", TAKEN, WRITE, second, 1),
-        ("one function", TAKEN, TAKEN, second, 2),
-        ("two goals of one function", f"{TAKEN} at one", f"{TAKEN} at other", second, 1),
-        ("one goal of one function", f"{TAKEN} at one", f"{TAKEN} at one", second, 2),
-        ("one line", TAKEN, WRITE, first, 2),
+        ("two functions", ADD, NEXT, second, 1),
+        ("one function", ADD, ADD, second, 2),
+        ("two goals of one function", f"{ADD} at one", f"{ADD} at other", second, 1),
+        ("one goal of one function", f"{ADD} at one", f"{ADD} at one", second, 2),
+        ("one line", ADD, NEXT, first, 2),
     ]
     for name, one, other, old, number in cases:
         batches = wrong.batches_of(CRATE, [edit_of(one, first, "a"), edit_of(other, old, "b")])

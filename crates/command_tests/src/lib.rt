@@ -1,6 +1,6 @@
 //! The tests of what no script shows, above the stores: indices, queries of views, plans of edits and the changes that
 //! they report (`index_grammar`, `text_index`, `search_dump`, `edit_ops`), and runs over devices that fail
-//! (`script_cli`, `devices`). A crate with tests is proved twice, so they have one of their own.
+//! (`script_cli`). A crate with tests is proved twice, so they have one of their own.
 #![tactic(auto)]
 
 #[cfg(test)]

@@ -6,9 +6,9 @@ pub use Rattle.std.proofs.Common.{suc, sym, take, true}
 pub use Rattle.command_effects.specs.declared.answers.Answer.{Answer}
 pub use Rattle.command_effects.specs.declared.answers.Fault.{Fault}
 pub use Rattle.command_effects.specs.declared.answers.Fault.TheVariants.{Memory}
-pub use Rattle.devices.specs.Devices.{Appends, Consumes, HandsOut, LeavesNone, ReadLog, Takes, WriteLog}
 pub use Rattle.peers.specs.Step.{step}
 pub use Rattle.peers.specs.World.{World}
+pub use Rattle.script_cli.specs.Devices.{Appends, Consumes, HandsOut, LeavesNone, ReadLog, Takes, WriteLog}
 pub use Rattle.script_cli.specs.Lines.{answer_text, error_line, fault_line, front_of, is_boundary, line_text}
 pub use Rattle.script_cli.specs.Lines.{memory_line, piece, printed, word_at}
 pub use Rattle.script_cli.specs.Reading.{Feeds, is_end, unread}

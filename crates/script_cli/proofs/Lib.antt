@@ -6,3 +6,4 @@ mod SameLaws
 pub mod SendingLaws
 pub mod ToldLaws
 pub mod TurnLaws
+pub mod WalkSteps

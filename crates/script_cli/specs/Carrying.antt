@@ -4,7 +4,7 @@ use Rattle.tcl_words.specs.Unread.{Unread, HasNoCommand}
 use Rattle.tcl_words.specs.declared.fault.ScriptFault.{ScriptFault}
 use Rattle.peers.specs.World.{World}
 use Rattle.script_cli.specs.declared.summary.RunSummary.{RunSummary}
-use Rattle.devices.specs.Devices.{WriteLog, Takes}
+use Rattle.script_cli.specs.Devices.{WriteLog, Takes}
 use Rattle.script_cli.specs.Run.{Holds, RunsTo}
 
 -- From this world the bytes have this run: so many commands, of which so many are refused, perhaps a fault, and this

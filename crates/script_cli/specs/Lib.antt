@@ -1,4 +1,5 @@
 pub mod Carrying
+pub mod Devices
 pub mod Lines
 pub mod PlainRun
 pub mod Reading

@@ -1,7 +1,7 @@
 -- What a read brings to a script.
 use Rattle.std.specs.Prelude.{◌≡◌, ℕ, ◌≤◌, Bool, true, false, List, ◌++◌, length, None}
 use Rattle.tcl_words.specs.Unread.{Unread}
-use Rattle.devices.specs.Devices.{ReadLog, HandsOut}
+use Rattle.script_cli.specs.Devices.{ReadLog, HandsOut}
 use Rattle.script_cli.specs.declared.reading.Brought.{Brought}
 use Rattle.script_cli.specs.declared.reading.Brought.TheVariants.{Bytes, End}
 

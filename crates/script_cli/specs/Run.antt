@@ -8,7 +8,7 @@ use Rattle.command_effects.specs.declared.answers.Fault.TheVariants.{Memory}
 use Rattle.peers.specs.World.{World}
 use Rattle.peers.specs.Step.{step}
 use Rattle.script_cli.specs.declared.summary.RunSummary.{RunSummary}
-use Rattle.devices.specs.Devices.{ReadLog, WriteLog, HandsOut, Takes}
+use Rattle.script_cli.specs.Devices.{ReadLog, WriteLog, HandsOut, Takes}
 use Rattle.script_cli.specs.Lines.{piece, error_line, script_fault_text}
 
 -- the world before the first command

@@ -1,6 +1,6 @@
 -- What a writer has taken, and what waits to be written.
 use Rattle.std.specs.Prelude.{◌≡◌, ℕ, Bool, true, false, List, ◌++◌}
-use Rattle.devices.specs.Devices.{WriteLog, Takes}
+use Rattle.script_cli.specs.Devices.{WriteLog, Takes}
 
 -- all of the bytes were written, or a front of them and the writer failed
 abbrev pub Sends : WriteLog → WriteLog → List ℕ → Bool → Type 0

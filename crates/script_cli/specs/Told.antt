@@ -5,7 +5,7 @@ use Rattle.text_model.specs.LimitTable.{LimitTable}
 use Rattle.tcl_words.specs.ScriptGrammar.{ReadsScript, ReadsFront}
 use Rattle.tcl_words.specs.declared.fault.ScriptFault.{ScriptFault}
 use Rattle.script_cli.specs.declared.summary.RunSummary.{RunSummary}
-use Rattle.devices.specs.Devices.{Appends}
+use Rattle.script_cli.specs.Devices.{Appends}
 use Rattle.script_cli.specs.PlainRun.{IsPlainUpToRefusal}
 use Rattle.script_cli.specs.Run.{no_documents, RunsTo}
 

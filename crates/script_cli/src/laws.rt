@@ -5,7 +5,7 @@ ghost use Rattle.text_model.specs.LimitTable.{LimitTable};
 ghost use Rattle.tcl_words.specs.declared.fault.ScriptFault.{ScriptFault};
 ghost use Rattle.peers.specs.World.{World};
 ghost use Rattle.script_cli.specs.declared.summary.RunSummary.{RunSummary};
-ghost use Rattle.devices.specs.Devices.{ReadLog, WriteLog};
+ghost use Rattle.script_cli.specs.Devices.{ReadLog, WriteLog};
 ghost use Rattle.script_cli.specs.Run.{RunsTo, run_output, refused_count, WritesRun, WritesFront};
 ghost use Rattle.script_cli.specs.Told.{WritesRunOf, WritesFrontOf, WritesFrontOfRead, WantsMemory};
 ghost use Rattle.script_cli.specs.PlainRun.{IsPlain, IsPlainOutput, IsPlainUpToRefusal};

@@ -1,6 +1,7 @@
 //! A whole run: the commands of a script, read from a device, and their answers, written to one.
 #![tactic(auto)]
 
+mod devices;
 pub mod laws;
 mod lines;
 mod output;

@@ -4,8 +4,8 @@ ghost use Rattle.std.specs.Prelude.{◌≡◌, ◌+◌, ◌≤◌, [], ◌++◌,
 ghost use Rattle.script_cli.specs.Lines.{printed};
 ghost use Rattle.script_cli.specs.Sending.{Sends, Gathers};
 
+use crate::devices::ByteSink;
 use crate::lines::Line;
-use devices::ByteSink;
 use std::marker::Model;
 
 /// Writes all of the bytes, and answers false where the writer fails before their end.

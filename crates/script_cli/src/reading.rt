@@ -1,11 +1,11 @@
 //! Reads once from a source and feeds the bytes, or the end of the script, to the splitter.
 
 ghost use Rattle.std.specs.Prelude.{◌≡◌, ◌+◌, ◌⊎◌, true, false, IfOk, IfErr, OnOk, OnErr, IsErrOf, List, ℕ};
-ghost use Rattle.devices.specs.Devices.{HandsOut};
+ghost use Rattle.script_cli.specs.Devices.{HandsOut};
 ghost use Rattle.script_cli.specs.Reading.{Feeds, unread, is_end};
 
+use crate::devices::ByteSource;
 use crate::summary::RunFault;
-use devices::ByteSource;
 use tcl_words::Splitter;
 
 /// What a read brought.

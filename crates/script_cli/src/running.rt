@@ -7,11 +7,11 @@ ghost use Rattle.script_cli.specs.Reading.{unread};
 ghost use Rattle.script_cli.specs.Run.{no_documents, WritesRun, WritesFront};
 ghost use Rattle.script_cli.specs.Sending.{Sends};
 
+use crate::devices::{ByteSink, ByteSource};
 use crate::output::Output;
 use crate::reading::{Brought, feed_read};
 use crate::summary::{RunFault, RunSummary};
 use crate::turns::{Met, take_turn};
-use devices::{ByteSink, ByteSource};
 use peers::World;
 use std::alloc::Global;
 use tcl_words::Splitter;

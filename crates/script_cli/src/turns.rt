@@ -7,9 +7,9 @@ ghost use Rattle.script_cli.specs.Run.{last_piece};
 ghost use Rattle.script_cli.specs.Sending.{Gathers};
 ghost use Rattle.script_cli.specs.Turns.{Replies, Meets, goes_on, is_fault, is_refusal};
 
+use crate::devices::ByteSink;
 use crate::lines::Line;
 use crate::output::Output;
-use devices::ByteSink;
 use peers::{Answer, Fault, World};
 use tcl_words::{ScriptFault, Splitter};
 use text_model::TextStore;

@@ -1,6 +1,5 @@
 //! Devices: what a program reads from and writes to, watched for its first failure, and what passed through them as
 //! data for contracts alone.
-#![tactic(auto)]
 
 mod passed_bytes;
 mod read_count;

@@ -1,7 +1,7 @@
 //! The traits of a device that a script is read from, and of one that output is written to.
 
 ghost use Rattle.std.specs.Prelude.{◌≡◌, ◌+◌, ◌<◌, ◌≤◌, Bool, true, false, length, take};
-ghost use Rattle.devices.specs.Devices.{ReadLog, WriteLog, Reads, Takes};
+ghost use Rattle.script_cli.specs.Devices.{ReadLog, WriteLog, Reads, Takes};
 
 /// What a script is read from.
 pub trait ByteSource {

@@ -1,16 +1,16 @@
 -- `step` sets the ghost bytes.
-use Rattle.devices.proofs.WalkSteps.{[], ◌∷◌, refl, proved, ftrue, flft, named, vunit, tables, ‵, ◌⊛◌, ◌$◌, ◌∵◌, !, qed}
-use Rattle.devices.proofs.WalkSteps.{done, move, keep, split, join, fsplit3, feq_i, suffices, frame, group, enter}
-use Rattle.devices.proofs.WalkSteps.{of_opd, unit_lit, returns, alloc_all, pass_all, free_all, look_at, sets, MutRef}
-use Rattle.devices.proofs.WalkSteps.{mut_vals, mut_Tells, plain, nothing, opens, closes, Stays, walk_of, says, stay_ref}
-use Rattle.devices.proofs.WalkSteps.{Goes-ref, stay_dropped, Goes-dropped, ends_at}
-use Rattle.std.specs.Prelude.{◌++◌}
+use Rattle.script_cli.proofs.Common.{◌++◌}
+use Rattle.script_cli.proofs.WalkSteps.{[], ◌∷◌, refl, proved, ftrue, flft, named, vunit, tables, ‵, ◌⊛◌, ◌$◌, ◌∵◌, ! }
+use Rattle.script_cli.proofs.WalkSteps.{qed, done, move, keep, split, join, fsplit3, feq_i, suffices, frame, group}
+use Rattle.script_cli.proofs.WalkSteps.{enter, of_opd, unit_lit, returns, alloc_all, pass_all, free_all, look_at, sets}
+use Rattle.script_cli.proofs.WalkSteps.{MutRef, mut_vals, mut_Tells, plain, nothing, opens, closes, Stays, walk_of}
+use Rattle.script_cli.proofs.WalkSteps.{says, stay_ref, Goes-ref, stay_dropped, Goes-dropped, ends_at}
 use denote.Builtin.{u8, SliceRefOf}
 use denote.Slice.{shr_slice_vals, shr_slice_Tells, ShrSlice}
-use Rattle.devices.specs.contracts.passed_bytes.PassedBytes.step as f
-use Rattle.devices.proofs.passed_bytes.PassedBytes.step.Statement.{statement}
-use Rattle.devices.proofs.passed_bytes.PassedBytes.step.Code as code
-use Rattle.devices.specs.contracts.passed_bytes.PassedBytes.{the_row as R}
+use Rattle.script_cli.proofs.devices.passed_bytes.PassedBytes.step.Statement.{statement}
+use Rattle.script_cli.specs.contracts.devices.passed_bytes.PassedBytes.{the_row as R}
+use Rattle.script_cli.specs.contracts.devices.passed_bytes.PassedBytes.step as f
+use Rattle.script_cli.proofs.devices.passed_bytes.PassedBytes.step.Code as code
 
 abbrev stayed : Stays f.ended.signature.params f.ended.kept
 stayed = (

@@ -1,10 +1,10 @@
 //! A watched writer as a byte sink: an error, or a write of no bytes where some are given, is a failure.
 
 ghost use Rattle.std.specs.Prelude.{◌≡◌, ◌<◌, ◌≤◌, true, false, length, take};
-ghost use Rattle.devices.specs.Devices.{Takes, bytes_taken};
+ghost use Rattle.script_cli.specs.Devices.{Takes, bytes_taken};
 
-use crate::traits::ByteSink;
-use crate::watched::Watched;
+use crate::devices::traits::ByteSink;
+use crate::devices::watched::Watched;
 use std::io;
 use std::io::Write;
 

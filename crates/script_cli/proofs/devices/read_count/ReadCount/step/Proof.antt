@@ -1,14 +1,14 @@
 -- `step` sets the ghost count.
-use Rattle.devices.proofs.WalkSteps.{[], ◌∷◌, refl, proved, ftrue, flft, named, vunit, tables, ‵, ◌⊛◌, ◌$◌, ◌∵◌, !, qed}
-use Rattle.devices.proofs.WalkSteps.{done, move, keep, split, join, fsplit3, feq_i, suffices, frame, group, enter}
-use Rattle.devices.proofs.WalkSteps.{of_opd, unit_lit, returns, alloc_all, pass_all, free_all, look_at, sets, MutRef}
-use Rattle.devices.proofs.WalkSteps.{mut_vals, mut_Tells, plain, nothing, opens, closes, Stays, walk_of, says, stay_ref}
-use Rattle.devices.proofs.WalkSteps.{Goes-ref, ends_at}
+use Rattle.script_cli.proofs.WalkSteps.{[], ◌∷◌, refl, proved, ftrue, flft, named, vunit, tables, ‵, ◌⊛◌, ◌$◌, ◌∵◌, ! }
+use Rattle.script_cli.proofs.WalkSteps.{qed, done, move, keep, split, join, fsplit3, feq_i, suffices, frame, group}
+use Rattle.script_cli.proofs.WalkSteps.{enter, of_opd, unit_lit, returns, alloc_all, pass_all, free_all, look_at, sets}
+use Rattle.script_cli.proofs.WalkSteps.{MutRef, mut_vals, mut_Tells, plain, nothing, opens, closes, Stays, walk_of}
+use Rattle.script_cli.proofs.WalkSteps.{says, stay_ref, Goes-ref, ends_at}
 use Prim.Native.Nat.{◌+◌}
-use Rattle.devices.specs.contracts.read_count.ReadCount.step as f
-use Rattle.devices.proofs.read_count.ReadCount.step.Statement.{statement}
-use Rattle.devices.proofs.read_count.ReadCount.step.Code as code
-use Rattle.devices.specs.contracts.read_count.ReadCount.{the_row as R}
+use Rattle.script_cli.proofs.devices.read_count.ReadCount.step.Statement.{statement}
+use Rattle.script_cli.specs.contracts.devices.read_count.ReadCount.{the_row as R}
+use Rattle.script_cli.specs.contracts.devices.read_count.ReadCount.step as f
+use Rattle.script_cli.proofs.devices.read_count.ReadCount.step.Code as code
 
 abbrev stayed : Stays f.ended.signature.params f.ended.kept
 stayed = (stay_ref (0 ∷ []) tt (plain (λ _. R)), tt)

@@ -2,10 +2,10 @@
 
 ghost use Rattle.std.specs.Prelude.{◌≡◌, ◌+◌, ◌≤◌, true, false, length};
 ghost use Rattle.std.specs.Result.{result_ok};
-ghost use Rattle.devices.specs.Devices.{Reads};
+ghost use Rattle.script_cli.specs.Devices.{Reads};
 
-use crate::traits::ByteSource;
-use crate::watched::Watched;
+use crate::devices::traits::ByteSource;
+use crate::devices::watched::Watched;
 use std::io;
 use std::io::Read;
 

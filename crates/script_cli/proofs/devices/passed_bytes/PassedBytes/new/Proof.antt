@@ -1,17 +1,16 @@
 -- `new` begins with no bytes.
-use Rattle.devices.proofs.WalkSteps.{[], ◌∷◌, refl, proved, ftrue, tables, ‵, ◌⊛◌, ◌$◌, ◌∵◌, !, qed, keep, join}
-use Rattle.devices.proofs.WalkSteps.{suffices, frame, enter, returns, alloc_all, pass_all, free_all, look_at, sets}
-use Rattle.devices.proofs.WalkSteps.{nothing, Stays, walk_of, ends_at}
+use Rattle.script_cli.proofs.WalkSteps.{[], ◌∷◌, refl, proved, ftrue, tables, ‵, ◌⊛◌, ◌$◌, ◌∵◌, !, qed, keep, join}
+use Rattle.script_cli.proofs.WalkSteps.{suffices, frame, enter, returns, alloc_all, pass_all, free_all, look_at, sets}
+use Rattle.script_cli.proofs.WalkSteps.{nothing, Stays, walk_of, ends_at, no_more}
 use types.Part.{agg}
 use types.Kit.{use0, by}
 use contract.Monad.{fact_i}
 use denote.Shadow.{makes_shadow}
 use mir.Val.{vstruct, vnil}
-use Rattle.devices.proofs.WalkSteps.{no_more}
-use Rattle.devices.specs.contracts.passed_bytes.PassedBytes.new as f
-use Rattle.devices.proofs.passed_bytes.PassedBytes.new.Statement.{statement}
-use Rattle.devices.proofs.passed_bytes.PassedBytes.new.Code as code
-use Rattle.devices.specs.contracts.passed_bytes.PassedBytes.{the_row as R}
+use Rattle.script_cli.proofs.devices.passed_bytes.PassedBytes.new.Statement.{statement}
+use Rattle.script_cli.specs.contracts.devices.passed_bytes.PassedBytes.{the_row as R}
+use Rattle.script_cli.specs.contracts.devices.passed_bytes.PassedBytes.new as f
+use Rattle.script_cli.proofs.devices.passed_bytes.PassedBytes.new.Code as code
 
 abbrev stayed : Stays f.ended.signature.params f.ended.kept
 stayed = tt

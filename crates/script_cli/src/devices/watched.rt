@@ -5,8 +5,8 @@ mod source;
 
 ghost use Rattle.std.specs.Prelude.{◌≡◌, [], false};
 
-use crate::passed_bytes::PassedBytes;
-use crate::read_count::ReadCount;
+use crate::devices::passed_bytes::PassedBytes;
+use crate::devices::read_count::ReadCount;
 
 /// A reader or a writer, and whether it has failed. After its first failure it isn't called again.
 ///
