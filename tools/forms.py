@@ -3,8 +3,9 @@
 
     python3 tools/forms.py > forms.h
 
-The subcommands, their switches and their options stand in `command_table/specs/Table.antt`, the words behind these in
-`command_table/src/commands.rt`, and those for states, comparisons and gravities in `command_effects/specs`.
+The subcommands, their switches and their options are in `command_table/specs/Table.antt`, the words after these in
+`command_table/src/commands.rt`, those for states and gravities in `command_effects/specs`, and those for comparisons in
+`peers/specs`.
 A form that takes another number of words than the table says is refused.
 """
 
@@ -104,12 +105,12 @@ def entry_of_text(form):
     return f"{{NULL, NULL, {literal(told(form))}, NULL, 1, 1}}"
 
 
-def words_of(name, definition):
-    """The literals of a definition in `command_effects/specs`."""
-    page = table.text_of("crates", "command_effects", "specs", f"{name}.antt")
+def words_of(crate, name, definition):
+    """The literals of a definition in the `specs` of a crate."""
+    page = table.text_of("crates", crate, "specs", f"{name}.antt")
     body = re.search(rf"^{definition} \w+ =(.*?)(?=^\S)", page, re.MULTILINE | re.DOTALL)
     if body is None:
-        sys.exit(f"crates/command_effects/specs/{name}.antt doesn't define {definition}")
+        sys.exit(f"crates/{crate}/specs/{name}.antt doesn't define {definition}")
     return table.LITERAL.findall(body[1])
 
 
@@ -131,9 +132,9 @@ def header():
         families=",\n    ".join(lines),
         subcommands=literal(one_of(sorted({words[0] for words in commands}))),
         option_names=", ".join(map(literal, option_names())), options=literal(one_of(sorted(option_names()))),
-        states=literal(one_of(sorted(words_of("Settings", "state_of")))),
-        comparisons=literal(one_of(words_of("Comparisons", "comparison_of"))),
-        gravities=literal(one_of(words_of("Marking", "gravity_of"))),
+        states=literal(one_of(sorted(words_of("command_effects", "Settings", "state_of")))),
+        comparisons=literal(one_of(words_of("peers", "Comparisons", "comparison_of"))),
+        gravities=literal(one_of(words_of("command_effects", "Marking", "gravity_of"))),
     )
 
 

@@ -1,5 +1,3 @@
-pub mod Arguments
-pub mod Comparisons
 pub mod Edits
 pub mod Faults
 pub mod Lists

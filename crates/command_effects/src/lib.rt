@@ -1,10 +1,8 @@
-//! What the commands of a text widget do and answer: their answers and faults, their words as lists, ranges and
-//! comparisons, and edits of a store together with the tables of its tags and its marks.
+//! What the commands of a text widget do and answer: their answers and faults, their words as lists and ranges, and
+//! edits of a store together with the tables of its tags and its marks.
 #![tactic(auto)]
 
 mod answers;
-mod arguments;
-mod comparisons;
 mod edits;
 mod lists;
 mod marking;
@@ -15,9 +13,7 @@ mod tagging;
 mod words;
 
 pub use answers::{Answer, Fault};
-pub use arguments::{first, first_two, none_or_one, one, one_or_two, three, two, two_or_three};
 pub use command_table::is_word;
-pub use comparisons::Comparison;
 pub use edits::{clear_slots, prepare_drop, put_mark, put_widget_marks, set_slot, take_marks};
 pub use lists::{Pair, pairs_at};
 pub use marking::{gravity_word, make_mark, numbers_named, read_gravity, turn_mark, unset_names};

@@ -31,8 +31,8 @@ use tag_table::TagTable;
 use text_model::{TagSlot, TextStore};
 use undo_stack::EditKind;
 
-/// Makes the tags of pairs that are new, and gives the texts with the slots of their lists. Where that is refused, new
-/// tags may stand behind the others.
+/// Makes the tags of pairs that are new, and returns the texts with the slots of their lists. If that is refused, new
+/// tags may be left at the end of the table.
 fn make_pieces(
     rules: &EditRules<'_>,
     tags: &mut TagTable,
@@ -144,7 +144,8 @@ pub fn plan_replacement<S: TextStore>(
     Ok(plan_replace(rules, text, target, pieces)?)
 }
 
-/// Makes a tag if it is new, and sets it on spans. Where that is refused, the new tag may stand behind the others.
+/// Makes a tag if it is new, and sets it on spans. If that is refused, the new tag may be left at the end of the
+/// table.
 pub fn tag_spans<S: TextStore>(
     rules: &EditRules<'_>,
     tags: &mut TagTable,

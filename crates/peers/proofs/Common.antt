@@ -6,7 +6,6 @@ pub use Rattle.std.proofs.Common.{encode_utf8, encode_utf8_all, eqb-true, false,
 pub use Rattle.std.proofs.Common.{is_ok, is_some, length, map, nat_le, nat_lt, not, ok_or, option_map, refl, reverse}
 pub use Rattle.std.proofs.Common.{slice_set, string_bytes, subst, suc, sym, take, true, zero}
 pub use Rattle.command_effects.proofs.WrittenLaws.{filter-append}
-pub use Rattle.command_effects.specs.Arguments.{first_of, first_two_of, none_or_one_of, one_or_two_of, two_of}
 pub use Rattle.command_effects.specs.Faults.{shape_fault, with_value}
 pub use Rattle.command_effects.specs.Lists.{Pair, pairs_at, total, with_name}
 pub use Rattle.command_effects.specs.Marking.{gravity_of}
@@ -67,6 +66,7 @@ pub use Rattle.documents.specs.Widgets.{ShowsOpenly, bare_document, is_kept, kee
 pub use Rattle.documents.specs.Widgets.{thinned, widget_named, with_peer, without_widgets}
 pub use Rattle.documents.specs.declared.mark_lists.MarkChange.{MarkChange}
 pub use Rattle.documents.specs.declared.mark_lists.MarkKey.{MarkKey}
+pub use Rattle.peers.specs.Arguments.{none_or_one_of, one_or_more_of, one_or_two_of, two_of, two_or_more_of}
 pub use Rattle.peers.specs.Commands.{Call, arguments_of, call_of, command, done, is_frugal_reading, is_told, shaped}
 pub use Rattle.peers.specs.Commands.{switches_of}
 pub use Rattle.peers.specs.Deletions.{delete, replace, replace_places, replace_words}

@@ -3,13 +3,13 @@ use Rattle.peers.proofs.Common.{◌≡◌, ℕ, suc, ◌+◌, ◌≤◌, true, f
 use Rattle.peers.proofs.Common.{refl, ap, ◌∙◌, ok_or, ⊤, All, ltb-false, All-cons, All-nil, LimitTable, boolean_of}
 use Rattle.peers.proofs.Common.{Command, Insert, Delete, Replace, MarkGravity, MarkSet, MarkUnset, TagAdd, TagRemove}
 use Rattle.peers.proofs.Common.{TagDelete, TagRaise, TagLower, Configure, EditUndo, EditRedo, EditModified, EditReset}
-use Rattle.peers.proofs.Common.{EditSeparator, PeerCreate, first_of, first_two_of, none_or_one_of, one_or_two_of}
-use Rattle.peers.proofs.Common.{two_of, with_value, Pair, pairs_at, is_among, Empty, Word, Fault, BadBoolean}
-use Rattle.peers.proofs.Common.{IndexOrder, InvalidCommandName, TooManyWidgets, WindowExists, Settings, delete_places}
-use Rattle.peers.proofs.Common.{replace_span, Document, Widget, edit_reset, modified_set, place_at, mark_offset}
-use Rattle.peers.proofs.Common.{place_named, is_window_name, settings_of, with_settings, Change, answered, change_with}
-use Rattle.peers.proofs.Common.{refused, unless_idle, add_spans, lowered, raised, remove_spans, reordered, insert_at}
-use Rattle.peers.proofs.Common.{insertion_offset, shown, view_end, with_peer, Call, done, delete, replace}
+use Rattle.peers.proofs.Common.{EditSeparator, PeerCreate, one_or_more_of, two_or_more_of, none_or_one_of}
+use Rattle.peers.proofs.Common.{one_or_two_of, two_of, with_value, Pair, pairs_at, is_among, Empty, Word, Fault}
+use Rattle.peers.proofs.Common.{BadBoolean, IndexOrder, InvalidCommandName, TooManyWidgets, WindowExists, Settings}
+use Rattle.peers.proofs.Common.{delete_places, replace_span, Document, Widget, edit_reset, modified_set, place_at}
+use Rattle.peers.proofs.Common.{mark_offset, place_named, is_window_name, settings_of, with_settings, Change, answered}
+use Rattle.peers.proofs.Common.{change_with, refused, unless_idle, add_spans, lowered, raised, remove_spans, reordered}
+use Rattle.peers.proofs.Common.{insert_at, insertion_offset, shown, view_end, with_peer, Call, done, delete, replace}
 use Rattle.peers.proofs.Common.{replace_places, replace_words, gravity_asked, gravity_given, gravity_words}
 use Rattle.peers.proofs.Common.{mark_gravity, mark_set, set_at, set_words, configure, settings_given, places_at}
 use Rattle.peers.proofs.Common.{add_words, remove_words, tag_add, tag_lower, tag_raise, tag_remove, insert_pairs}
@@ -152,14 +152,14 @@ module _ (limits : LimitTable) (document : Document) (widget : Widget) (P : Docu
     (tagged : IsTagged limits document widget P) where
   adds : (position : ℕ) (words : List (List ℕ)) → P (tag_add limits document widget position words).document
   adds position words =
-      carried-with P document (first_of words) (add_words limits document widget position) same (λ given _.
+      carried-with P document (one_or_more_of words) (add_words limits document widget position) same (λ given _.
       carried-with P document (places_at document widget (position + 1) given.1)
       (add_spans limits document widget given.0) same (λ places _.
       tagged.added given.0 places))
 
   removes : (position : ℕ) (words : List (List ℕ)) → P (tag_remove document widget position words).document
   removes position words =
-      carried-with P document (first_of words) (remove_words document widget position) same (λ given _.
+      carried-with P document (one_or_more_of words) (remove_words document widget position) same (λ given _.
       carried-with P document (places_at document widget (position + 1) given.1) (remove_spans document widget given.0)
       same (λ places _.
       tagged.removed given.0 places))
@@ -217,7 +217,7 @@ module _ (limits : LimitTable) (document : Document) (widget : Widget) (P : Docu
     (edited : IsTextEdited limits document widget P) where
   inserts : (position : ℕ) (words : List (List ℕ)) → P (insert limits document widget position words).document
   inserts position words =
-      carried-with P document (first_of words) (insert_words limits document widget position) same
+      carried-with P document (one_or_more_of words) (insert_words limits document widget position) same
       (λ given _.
       carried-with P document (place_at document widget position given.0)
       (insert_pairs limits document widget (pairs_at (position + 1) given.1)) same (λ place _.
@@ -242,7 +242,7 @@ module _ (limits : LimitTable) (document : Document) (widget : Widget) (P : Docu
 
   replaces : (position : ℕ) (words : List (List ℕ)) → P (replace limits document widget position words).document
   replaces position words =
-      carried-with P document (first_two_of words) (replace_words limits document widget position) same
+      carried-with P document (two_or_more_of words) (replace_words limits document widget position) same
       (λ given _.
       carried-with P document (place_at document widget position given.0) (λ from.
       change_with document (place_at document widget (position + 1) given.1) (λ to.

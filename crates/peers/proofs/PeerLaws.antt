@@ -1,19 +1,19 @@
 -- What `peer create` makes, as its words are read one after the other.
 use Rattle.peers.proofs.Common.{◌≡◌, ℕ, ◌+◌, Bool, true, false, List, ap, ◌∙◌, Ok, Err, Result, if◌then◌else◌}
-use Rattle.peers.proofs.Common.{LimitTable, first_of, Fault, InvalidCommandName, Settings, Document, Widget}
+use Rattle.peers.proofs.Common.{LimitTable, one_or_more_of, Fault, InvalidCommandName, Settings, Document, Widget}
 use Rattle.peers.proofs.Common.{is_window_name, Change, change_with, refused, settings_given, peer_create}
 use Rattle.peers.proofs.Common.{peer_settings, peer_with, peer_words}
 
 -- ---- the words of `peer create`
 
 pub no-peer : (limits : LimitTable) (windows : List (List ℕ)) (document : Document) (widget : Widget) (position : ℕ)
-    (words : List (List ℕ)) (fault : Fault) → first_of words ≡ Err fault
+    (words : List (List ℕ)) (fault : Fault) → one_or_more_of words ≡ Err fault
     → peer_create limits windows document widget position words ≡ refused document fault
 no-peer limits windows document widget position words fault none =
     ap (λ parts. change_with document parts (peer_words limits windows document widget position)) none
 
 module _ (limits : LimitTable) (windows : List (List ℕ)) (document : Document) (widget : Widget) (position : ℕ)
-    (words : List (List ℕ)) (name : List ℕ) (options : List (List ℕ)) (first : first_of words
+    (words : List (List ℕ)) (name : List ℕ) (options : List (List ℕ)) (first : one_or_more_of words
     ≡ Ok (name, options)) where
   abbrev with_options : Result Settings Fault → Change
   with_options found = change_with document found (peer_with limits windows document position name)

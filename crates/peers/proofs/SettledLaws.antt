@@ -2,8 +2,8 @@
 use Rattle.peers.proofs.Common.{◌≡◌, ◌⊎◌, inl, inr, ℕ, suc, ◌+◌, Bool, true, false, List, [], ◌∷◌, ◌++◌, drop, Option}
 use Rattle.peers.proofs.Common.{None, Some, Result, Ok, Err, refl, sym, ap, ◌∙◌, subst, is_among, is_same, literal}
 use Rattle.peers.proofs.Common.{pairs_at, if◌then◌else◌, length, nat_le, nat_lt, slice_set, ok_or, boolean_of}
-use Rattle.peers.proofs.Common.{LimitTable, Command, first_of, first_two_of, none_or_one_of, one_or_two_of, two_of}
-use Rattle.peers.proofs.Common.{Empty, Word, Fault, BadBoolean, IndexOrder, TooManyWidgets, WindowExists}
+use Rattle.peers.proofs.Common.{LimitTable, Command, one_or_more_of, two_or_more_of, none_or_one_of, one_or_two_of}
+use Rattle.peers.proofs.Common.{two_of, Empty, Word, Fault, BadBoolean, IndexOrder, TooManyWidgets, WindowExists}
 use Rattle.peers.proofs.Common.{InvalidCommandName, Insert, Delete, Replace, MarkGravity, MarkSet, MarkUnset, TagAdd}
 use Rattle.peers.proofs.Common.{TagRemove, TagDelete, TagRaise, TagLower, Configure, EditUndo, EditRedo, EditModified}
 use Rattle.peers.proofs.Common.{EditReset, PeerCreate, EditSeparator, Settings, Shape, ShapeFault, behind, reading}
@@ -92,7 +92,7 @@ module _ (words : List (List ℕ)) (document : Document) where
   inserts : (limits : LimitTable) (widget : Widget) (position : ℕ) (given : List (List ℕ)) →
       IsSettled (insert limits document widget position given)
   inserts limits widget position arguments =
-      given (first_of arguments) (insert_words limits document widget position) (λ parts.
+      given (one_or_more_of arguments) (insert_words limits document widget position) (λ parts.
       given (place_at document widget position parts.0)
       (insert_pairs limits document widget (pairs_at (position + 1) parts.1)) (λ place.
       given (pairs_at (position + 1) parts.1)
@@ -112,7 +112,7 @@ module _ (words : List (List ℕ)) (document : Document) where
   replaces : (limits : LimitTable) (widget : Widget) (position : ℕ) (arguments : List (List ℕ)) →
       IsSettled (replace limits document widget position arguments)
   replaces limits widget position arguments =
-      given (first_two_of arguments) (replace_words limits document widget position) (λ parts.
+      given (two_or_more_of arguments) (replace_words limits document widget position) (λ parts.
       given (place_at document widget position parts.0) (λ from.
       change_with document (place_at document widget (position + 1) parts.1) (λ to.
       change_with document (pairs_at (position + 2) parts.2)
@@ -163,7 +163,7 @@ module _ (words : List (List ℕ)) (document : Document) where
   adds : (limits : LimitTable) (widget : Widget) (position : ℕ) (arguments : List (List ℕ)) →
       IsSettled (tag_add limits document widget position arguments)
   adds limits widget position arguments =
-      given (first_of arguments) (add_words limits document widget position) (λ parts.
+      given (one_or_more_of arguments) (add_words limits document widget position) (λ parts.
       given (places_at document widget (position + 1) parts.1) (add_spans limits document widget parts.0) (λ places.
       either (nat_lt (limits.tags + 1) (length (with_name document.tags parts.0))) (refused document TooManyTags)
       (answered _ Empty) (refusing TooManyTags) (said _)))
@@ -171,7 +171,7 @@ module _ (words : List (List ℕ)) (document : Document) where
   removes : (widget : Widget) (position : ℕ) (arguments : List (List ℕ)) →
       IsSettled (tag_remove document widget position arguments)
   removes widget position arguments =
-      given (first_of arguments) (remove_words document widget position) (λ parts.
+      given (one_or_more_of arguments) (remove_words document widget position) (λ parts.
       given (places_at document widget (position + 1) parts.1) (remove_spans document widget parts.0) (λ places. said _))
 
   orders : (position : ℕ) (order : List (List ℕ) → List ℕ → Option (List ℕ) → List (List ℕ))

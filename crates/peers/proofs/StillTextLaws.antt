@@ -2,7 +2,7 @@
 use Rattle.peers.proofs.Common.{◌≡◌, ℕ, ◌+◌, Bool, true, false, List, [], Option, Some, None, Ok, Err, Result, refl}
 use Rattle.peers.proofs.Common.{ok_or, LimitTable, boolean_of, Command, Insert, Delete, Replace, MarkGravity, MarkSet}
 use Rattle.peers.proofs.Common.{TagAdd, TagRemove, TagRaise, TagLower, Configure, EditUndo, EditRedo, EditModified}
-use Rattle.peers.proofs.Common.{PeerCreate, first_of, none_or_one_of, one_or_two_of, two_of, is_among, Fault}
+use Rattle.peers.proofs.Common.{PeerCreate, one_or_more_of, none_or_one_of, one_or_two_of, two_of, is_among, Fault}
 use Rattle.peers.proofs.Common.{BadBoolean, NoSuchTag, TooManyTags, TooManyMarks, InvalidCommandName, TooManyWidgets}
 use Rattle.peers.proofs.Common.{WindowExists, Document, Widget, modified_set, place_at, mark_offset, place_named}
 use Rattle.peers.proofs.Common.{is_window_name, settings_of, Change, change_with, refused, add_spans, lowered, raised}
@@ -94,9 +94,9 @@ module _ (limits : LimitTable) (windows : List (List ℕ)) (document : Document)
   still-text MarkSet switches position arguments text =
       still-with document (two_of arguments) (set_words limits document widget position) (sets position)
   still-text TagAdd switches position arguments text =
-      still-with document (first_of arguments) (add_words limits document widget position) (adds position)
+      still-with document (one_or_more_of arguments) (add_words limits document widget position) (adds position)
   still-text TagRemove switches position arguments text =
-      still-with document (first_of arguments) (remove_words document widget position) (removes position)
+      still-with document (one_or_more_of arguments) (remove_words document widget position) (removes position)
   still-text TagRaise switches position arguments text =
       still-with document (one_or_two_of arguments) (reordered document position raised) (orders position raised)
   still-text TagLower switches position arguments text =
@@ -106,5 +106,5 @@ module _ (limits : LimitTable) (windows : List (List ℕ)) (document : Document)
   still-text EditModified switches position arguments text =
       still-with document (none_or_one_of arguments) (modified_word document position) (modifies position)
   still-text PeerCreate switches position arguments text =
-      still-with document (first_of arguments) (peer_words limits windows document widget position) (creates position)
+      still-with document (one_or_more_of arguments) (peer_words limits windows document widget position) (creates position)
   still-text command switches position arguments text = refl

@@ -1,12 +1,12 @@
 -- What is told of a command of a widget that edits the text takes the marks to where the command leaves them.
 use Rattle.peers.proofs.Common.{TakesMarksBut, ◌≡◌, ℕ, zero, suc, ◌+◌, ◌<◌, true, false, List, [], ◌∷◌, Ok, Err, Result}
 use Rattle.peers.proofs.Common.{length, refl, arith, get_or, nat_lt, if◌then◌else◌, ltb-false, LimitTable, Empty, Fault}
-use Rattle.peers.proofs.Common.{IndexOrder, first_of, first_two_of, Pair, pairs_at, Document, Widget, delete_places}
-use Rattle.peers.proofs.Common.{replace_span, place_at, watched, Change, answered, change_with, refused, unless_idle}
-use Rattle.peers.proofs.Common.{insert_at, insertion_offset, is_idle, IsPlaced, delete, replace, replace_places}
-use Rattle.peers.proofs.Common.{replace_words, insert_pairs, insert_words, places_at, AllByRecursion, no_widget}
-use Rattle.peers.proofs.Common.{insert_key, deleted-taken, inserted-taken, placed-active, refused-taken, replaced-taken}
-use Rattle.peers.proofs.Common.{still-taken, insert}
+use Rattle.peers.proofs.Common.{IndexOrder, one_or_more_of, two_or_more_of, Pair, pairs_at, Document, Widget}
+use Rattle.peers.proofs.Common.{delete_places, replace_span, place_at, watched, Change, answered, change_with, refused}
+use Rattle.peers.proofs.Common.{unless_idle, insert_at, insertion_offset, is_idle, IsPlaced, delete, replace}
+use Rattle.peers.proofs.Common.{replace_places, replace_words, insert_pairs, insert_words, places_at, AllByRecursion}
+use Rattle.peers.proofs.Common.{no_widget, insert_key, deleted-taken, inserted-taken, placed-active, refused-taken}
+use Rattle.peers.proofs.Common.{replaced-taken, still-taken, insert}
 use Rattle.peers.proofs.DoneLaws.{places-within}
 
 -- what holds of a refusal, and of what follows a value
@@ -40,7 +40,7 @@ module _ (limits : LimitTable) (document : Document) (widget : Widget) (placed :
   inserts-take position words =
       let P : Change → Type 0 = TakesMarksBut [] document in
       let fails : (fault : Fault) → P (refused document fault) = refused-taken [] document in
-      made-with P document (first_of words) (insert_words limits document widget position) fails (λ given _.
+      made-with P document (one_or_more_of words) (insert_words limits document widget position) fails (λ given _.
       made-with P document (place_at document widget position given.0)
       (insert_pairs limits document widget (pairs_at (position + 1) given.1)) fails (λ place _.
       made-with P document (pairs_at (position + 1) given.1)
@@ -87,7 +87,7 @@ module _ (limits : LimitTable) (document : Document) (widget : Widget) (placed :
       let marks = watched document (insert_key widget.name) ∷ [] in
       let P : Change → Type 0 = TakesMarksBut marks document in
       let fails : (fault : Fault) → P (refused document fault) = refused-taken marks document in
-      made-with P document (first_two_of words) (replace_words limits document widget position) fails (λ given _.
+      made-with P document (two_or_more_of words) (replace_words limits document widget position) fails (λ given _.
       made-with P document (place_at document widget position given.0) (λ from.
       change_with document (place_at document widget (position + 1) given.1) (λ to.
       change_with document (pairs_at (position + 2) given.2)

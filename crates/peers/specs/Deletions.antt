@@ -2,7 +2,7 @@
 use Rattle.std.specs.Prelude.{ℕ, ◌+◌, nat_lt, List, if◌then◌else◌}
 use Rattle.text_model.specs.LimitTable.{LimitTable}
 use Rattle.command_effects.specs.declared.answers.Fault.TheVariants.{IndexOrder}
-use Rattle.command_effects.specs.Arguments.{first_two_of}
+use Rattle.peers.specs.Arguments.{two_or_more_of}
 use Rattle.command_effects.specs.Lists.{Pair, pairs_at}
 use Rattle.documents.specs.Indices.{place_at}
 use Rattle.documents.specs.Promise.{Change, change_with, refused, unless_idle}
@@ -39,4 +39,4 @@ replace_words limits document widget position (first, second, words) =
 -- `W replace A B chars ?tagList chars ..?`
 abbrev pub replace : LimitTable → Document → Widget → ℕ → List (List ℕ) → Change
 replace limits document widget position words =
-    change_with document (first_two_of words) (replace_words limits document widget position)
+    change_with document (two_or_more_of words) (replace_words limits document widget position)

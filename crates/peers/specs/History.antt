@@ -4,7 +4,7 @@ use Rattle.command_table.specs.Numbers.{boolean_of}
 use Rattle.undo_stack.specs.Modified.{is_modified}
 use Rattle.command_effects.specs.declared.answers.Answer.TheVariants.{Flag}
 use Rattle.command_effects.specs.declared.answers.Fault.TheVariants.{BadBoolean}
-use Rattle.command_effects.specs.Arguments.{none_or_one_of}
+use Rattle.peers.specs.Arguments.{none_or_one_of}
 use Rattle.documents.specs.Promise.{Change, answered, change_with}
 use Rattle.documents.specs.Documents.{Document}
 use Rattle.documents.specs.History.{can_redo, can_undo, modified_set}

@@ -1,15 +1,16 @@
 -- Commands on indices: `index` and `compare`.
-use Rattle.std.specs.Prelude.{ℕ, ◌+◌, List, Result, Ok}
+use Rattle.std.specs.Prelude.{ℕ, ◌+◌, List, Result, Ok, ok_or}
 use Rattle.text_index.specs.Positions.{position_text}
 use Rattle.command_effects.specs.declared.answers.Answer.{Answer}
 use Rattle.command_effects.specs.declared.answers.Answer.TheVariants.{Text, Flag}
 use Rattle.command_effects.specs.declared.answers.Fault.{Fault}
-use Rattle.command_effects.specs.declared.comparisons.Comparison.{Comparison}
-use Rattle.command_effects.specs.Arguments.{one_of, three_of}
+use Rattle.command_effects.specs.declared.answers.Fault.TheVariants.{BadComparison}
+use Rattle.peers.specs.declared.comparisons.Comparison.{Comparison}
+use Rattle.peers.specs.Arguments.{one_of, three_of}
 use Rattle.command_effects.specs.Faults.{with_value}
 use Rattle.documents.specs.Views.{shown}
 use Rattle.documents.specs.Documents.{Document, Widget}
-use Rattle.command_effects.specs.Comparisons.{comparison_at, comparison_of, holds}
+use Rattle.peers.specs.Comparisons.{comparison_of, holds}
 use Rattle.documents.specs.Indices.{place_at}
 
 -- a place as `line.char`
@@ -32,8 +33,8 @@ compared left operator right =
 
 abbrev pub compared_at : Document → Widget → ℕ → List ℕ × List ℕ × List ℕ → Result Answer Fault
 compared_at document widget position words =
-    compared (place_at document widget position words.0) (comparison_at (position + 1) (comparison_of words.1))
-    (place_at document widget (position + 2) words.2)
+    compared (place_at document widget position words.0)
+    (ok_or (comparison_of words.1) (BadComparison (position + 1))) (place_at document widget (position + 2) words.2)
 
 -- `W compare A op B`
 abbrev pub compare : Document → Widget → ℕ → List (List ℕ) → Result Answer Fault

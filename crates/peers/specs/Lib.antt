@@ -1,4 +1,6 @@
+pub mod Arguments
 pub mod Commands
+pub mod Comparisons
 pub mod Concerned
 pub mod Deletions
 pub mod History

@@ -11,7 +11,7 @@ use Rattle.command_effects.specs.declared.answers.Answer.{Answer}
 use Rattle.command_effects.specs.declared.answers.Answer.TheVariants.{Empty, Text}
 use Rattle.command_effects.specs.declared.answers.Fault.{Fault}
 use Rattle.command_effects.specs.declared.answers.Fault.TheVariants.{BadIndex, NoSuchMark, BadGravity}
-use Rattle.command_effects.specs.Arguments.{one_of, one_or_two_of, two_of}
+use Rattle.peers.specs.Arguments.{one_of, one_or_two_of, two_of}
 use Rattle.command_effects.specs.Faults.{with_value}
 use Rattle.documents.specs.Indices.{place_at}
 use Rattle.documents.specs.Names.{mark_number, mark_place}

@@ -5,7 +5,7 @@ use Rattle.command_effects.specs.declared.answers.Answer.{Answer}
 use Rattle.command_effects.specs.declared.answers.Answer.TheVariants.{Empty}
 use Rattle.command_effects.specs.declared.answers.Fault.{Fault}
 use Rattle.command_effects.specs.declared.settings.Settings.{Settings}
-use Rattle.command_effects.specs.Arguments.{one_of}
+use Rattle.peers.specs.Arguments.{one_of}
 use Rattle.command_effects.specs.Faults.{with_value}
 use Rattle.command_effects.specs.Settings.{setting_answer, settings_checked, settings_read}
 use Rattle.documents.specs.Options.{settings_of, with_settings}

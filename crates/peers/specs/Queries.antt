@@ -15,7 +15,7 @@ use Rattle.search_dump.specs.declared.searching.SearchSwitches.{SearchSwitches}
 use Rattle.search_dump.specs.declared.searching.Wanted.TheVariants.{First, Apart, All}
 use Rattle.command_effects.specs.declared.answers.Answer.{Answer}
 use Rattle.command_effects.specs.declared.answers.Fault.{Fault}
-use Rattle.command_effects.specs.Arguments.{one_or_two_of, two_of, two_or_three_of}
+use Rattle.peers.specs.Arguments.{one_or_two_of, two_of, two_or_three_of}
 use Rattle.command_effects.specs.Faults.{with_value}
 use Rattle.command_effects.specs.Words.{is_same, literal}
 use Rattle.documents.specs.Indices.{place_at}

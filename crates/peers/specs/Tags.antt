@@ -5,7 +5,7 @@ use Rattle.tcl_words.specs.ListText.{list_text}
 use Rattle.command_effects.specs.declared.answers.Answer.{Answer}
 use Rattle.command_effects.specs.declared.answers.Answer.TheVariants.{Text}
 use Rattle.command_effects.specs.declared.answers.Fault.{Fault}
-use Rattle.command_effects.specs.Arguments.{first_of, none_or_one_of, one_of, one_or_two_of, two_or_three_of}
+use Rattle.peers.specs.Arguments.{one_or_more_of, none_or_one_of, one_of, one_or_two_of, two_or_three_of}
 use Rattle.command_effects.specs.Faults.{with_value}
 use Rattle.documents.specs.Indices.{place_at}
 use Rattle.documents.specs.Promise.{Change, change_with}
@@ -26,7 +26,7 @@ add_words limits document widget position (name, words) =
 -- `W tag add T I ?I ..?`
 abbrev pub tag_add : LimitTable → Document → Widget → ℕ → List (List ℕ) → Change
 tag_add limits document widget position words =
-    change_with document (first_of words) (add_words limits document widget position)
+    change_with document (one_or_more_of words) (add_words limits document widget position)
 
 abbrev pub remove_words : Document → Widget → ℕ → List ℕ × List (List ℕ) → Change
 remove_words document widget position (name, words) =
@@ -35,7 +35,7 @@ remove_words document widget position (name, words) =
 -- `W tag remove T I ?I ..?`
 abbrev pub tag_remove : Document → Widget → ℕ → List (List ℕ) → Change
 tag_remove document widget position words =
-    change_with document (first_of words) (remove_words document widget position)
+    change_with document (one_or_more_of words) (remove_words document widget position)
 
 -- ---- names and ranges
 

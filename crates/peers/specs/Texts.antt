@@ -5,7 +5,7 @@ use Rattle.tcl_words.specs.ListText.{list_text}
 use Rattle.command_effects.specs.declared.answers.Answer.{Answer}
 use Rattle.command_effects.specs.declared.answers.Answer.TheVariants.{Text}
 use Rattle.command_effects.specs.declared.answers.Fault.{Fault}
-use Rattle.command_effects.specs.Arguments.{first_of}
+use Rattle.peers.specs.Arguments.{one_or_more_of}
 use Rattle.command_effects.specs.Faults.{with_value}
 use Rattle.documents.specs.Indices.{place_at}
 use Rattle.command_effects.specs.Lists.{Pair, pairs_at}
@@ -29,7 +29,7 @@ insert_words limits document widget position (index, words) =
 -- `W insert I chars ?tagList chars ..?`
 abbrev pub insert : LimitTable → Document → Widget → ℕ → List (List ℕ) → Change
 insert limits document widget position words =
-    change_with document (first_of words) (insert_words limits document widget position)
+    change_with document (one_or_more_of words) (insert_words limits document widget position)
 
 -- the characters of the view from one place to another
 abbrev pub text_of : Document → Widget → ℕ → ℕ → List ℕ

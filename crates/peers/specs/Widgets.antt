@@ -6,7 +6,7 @@ use Rattle.command_effects.specs.declared.answers.Answer.TheVariants.{Word}
 use Rattle.command_effects.specs.declared.answers.Fault.{Fault}
 use Rattle.command_effects.specs.declared.answers.Fault.TheVariants.{InvalidCommandName, TooManyWidgets, WindowExists}
 use Rattle.command_effects.specs.declared.settings.Settings.{Settings}
-use Rattle.command_effects.specs.Arguments.{first_of}
+use Rattle.peers.specs.Arguments.{one_or_more_of}
 use Rattle.command_effects.specs.Words.{is_among, is_same}
 use Rattle.documents.specs.Documents.{Document, Widget}
 use Rattle.documents.specs.Kept.{is_window_name}
@@ -38,7 +38,7 @@ peer_words limits windows document widget position (name, words) =
 -- `W peer create V ?option value ..?`; the names of all windows are known
 abbrev pub peer_create : LimitTable → List (List ℕ) → Document → Widget → ℕ → List (List ℕ) → Change
 peer_create limits windows document widget position words =
-    change_with document (first_of words) (peer_words limits windows document widget position)
+    change_with document (one_or_more_of words) (peer_words limits windows document widget position)
 
 -- `W peer names`: the other widgets of the document, by their creation
 abbrev pub peer_names : Document → Widget → Result Answer Fault

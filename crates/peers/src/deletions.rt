@@ -9,7 +9,7 @@ ghost use Rattle.documents.specs.Told.{reply_of, IsTold};
 
 use crate::ranges::places_at;
 use crate::requests::Request;
-use command_effects::{Fault, first_two, pairs_at};
+use command_effects::{Fault, pairs_at};
 use documents::{Document, EditTold};
 use text_model::TextStore;
 
@@ -48,7 +48,7 @@ pub fn replace<S: TextStore>(
         (replace request.now.caller.limits.now document.old (widget_of document.old request.now) request.now.position
         (words_of request.now)) document.old document.new result }
 {
-    let (first, second, words) = first_two(request.arguments)?;
+    let (first, second, words) = request.two_or_more()?;
     let seat = request.caller.seat;
     let from = document.place_at(seat, request.position, first)?;
     let to = document.place_at(seat, request.position + 1, second)?;

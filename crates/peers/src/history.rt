@@ -8,7 +8,7 @@ ghost use Rattle.peers.specs.Requests.{words_of};
 ghost use Rattle.documents.specs.Promise.{Does};
 
 use crate::requests::Request;
-use command_effects::{Answer, Fault, boolean_at, none_or_one};
+use command_effects::{Answer, Fault, boolean_at};
 use documents::Document;
 use text_model::TextStore;
 
@@ -21,7 +21,7 @@ pub fn edit_modified<S: TextStore>(
         (edit_modified document.old request.now.position (words_of request.now)) }
     ensures frugal { result ≢ Err Memory }
 {
-    let Some(word) = none_or_one(request.arguments)? else {
+    let Some(word) = request.none_or_one()? else {
         return Ok(Answer::Flag(document.is_modified()));
     };
     let modified = boolean_at(request.position, word)?;

@@ -2,6 +2,7 @@
 #![tactic(auto)]
 
 mod commands;
+mod comparisons;
 mod deletions;
 mod document_list;
 mod history;

@@ -13,7 +13,7 @@ ghost use Rattle.peers.specs.Marks.{mark_previous};
 ghost use Rattle.peers.specs.Requests.{called, widget_of, words_of};
 
 use crate::requests::Request;
-use command_effects::{Answer, Fault, one, one_or_two, read_gravity, two};
+use command_effects::{Answer, Fault, read_gravity};
 use command_table::Command;
 use documents::{Document, MarkList};
 use mark_table::{Origin, WidgetMark};
@@ -30,7 +30,7 @@ pub fn mark_set<S: TextStore>(
         (mark_set request.now.caller.limits.now document.old (widget_of document.old request.now) request.now.position
         (words_of request.now)) }
 {
-    let (name, word) = two(request.arguments)?;
+    let (name, word) = request.two()?;
     let seat = request.caller.seat;
     let place = document.place_at(seat, request.position + 1, word)?;
     let offset = document.mark_offset(seat, name, place);
@@ -52,7 +52,7 @@ pub fn mark_gravity<S: TextStore>(
     ensures { (limits : LimitTable) → Does limits document.old document.new result
         (mark_gravity document.old (widget_of document.old request.now) request.now.position (words_of request.now)) }
 {
-    let (name, word) = one_or_two(request.arguments)?;
+    let (name, word) = request.one_or_two()?;
     let seat = request.caller.seat;
     let Some(place) = document.place_named(seat, name) else {
         return Err(Fault::NoSuchMark(request.position));
@@ -118,7 +118,7 @@ pub fn mark_next<S: TextStore>(
     ensures { Gives result
         (mark_next document.now (widget_of document.now request.now) request.now.position (words_of request.now)) }
 {
-    let word = one(request.arguments)?;
+    let word = request.one()?;
     let origin = origin_at(document, request, word)?;
     mark_answer(document, document.next_mark(request.caller.seat, origin))
 }
@@ -132,7 +132,7 @@ pub fn mark_previous<S: TextStore>(
     ensures { Gives result
         (mark_previous document.now (widget_of document.now request.now) request.now.position (words_of request.now)) }
 {
-    let word = one(request.arguments)?;
+    let word = request.one()?;
     let origin = origin_at(document, request, word)?;
     mark_answer(
         document,

@@ -11,7 +11,7 @@ ghost use Rattle.command_effects.specs.Faults.{with_value};
 ghost use Rattle.documents.specs.Options.{AreLines};
 
 use crate::requests::Request;
-use command_effects::{Answer, Fault, Settings, one};
+use command_effects::{Answer, Fault, Settings};
 use documents::Document;
 use text_model::TextStore;
 
@@ -58,7 +58,7 @@ pub fn cget<S: TextStore>(document: &Document<S>, request: &Request<'_>) -> Resu
     requires shown { request.now.caller.seat < length document.now.widgets }
     ensures { Gives result (cget document.now (widget_of document.now request.now) (words_of request.now)) }
 {
-    let option = one(request.arguments)?;
+    let option = request.one()?;
     let settings = document.settings(request.caller.seat);
     Ok(settings.answer(document.allocator(), option)?)
 }

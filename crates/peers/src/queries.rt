@@ -11,7 +11,7 @@ ghost use Rattle.documents.specs.Documents.{widget_at};
 
 use crate::requests::Request;
 use crate::tags::place_or;
-use command_effects::{Answer, Fault, is_word, one_or_two, two, two_or_three};
+use command_effects::{Answer, Fault, is_word};
 use command_table::abbreviates;
 use documents::Document;
 use search_dump::{Counted, Listed, SearchSwitches, Wanted};
@@ -138,7 +138,7 @@ pub fn search<S: TextStore>(document: &Document<S>, request: &Request<'_>) -> Re
         (search document.now (widget_of document.now request.now) (texts_of request.now.switches.now)
         request.now.position (words_of request.now)) }
 {
-    let (pattern, first, last) = two_or_three(request.arguments)?;
+    let (pattern, first, last) = request.two_or_three()?;
     let seat = request.caller.seat;
     let from = document.place_at(seat, request.position + 1, first)?;
     let stop = stop_at(document, seat, request.position + 2, last)?;
@@ -154,7 +154,7 @@ pub fn count<S: TextStore>(document: &Document<S>, request: &Request<'_>) -> Res
         (count document.now (widget_of document.now request.now) (texts_of request.now.switches.now)
         request.now.position (words_of request.now)) }
 {
-    let (first, second) = two(request.arguments)?;
+    let (first, second) = request.two()?;
     let options = counted_options(document.allocator(), request.switches)?;
     let seat = request.caller.seat;
     let from = document.place_at(seat, request.position, first)?;
@@ -180,7 +180,7 @@ pub fn dump<S: TextStore>(document: &Document<S>, request: &Request<'_>) -> Resu
         (dump document.now (widget_of document.now request.now) (texts_of request.now.switches.now)
         request.now.position (words_of request.now)) }
 {
-    let (first, last) = one_or_two(request.arguments)?;
+    let (first, last) = request.one_or_two()?;
     let seat = request.caller.seat;
     let from = document.place_at(seat, request.position, first)?;
     let behind = place_behind(document, seat, from);

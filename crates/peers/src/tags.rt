@@ -12,7 +12,7 @@ ghost use Rattle.peers.specs.Tags.{tag_prevrange, tag_raise, tag_lower};
 
 use crate::ranges::places_at;
 use crate::requests::Request;
-use command_effects::{Answer, Fault, first, none_or_one, one, one_or_two, two_or_three};
+use command_effects::{Answer, Fault};
 use documents::{Document, EditTold};
 use text_model::TextStore;
 
@@ -29,7 +29,7 @@ pub fn tag_add<S: TextStore>(
         (tag_add request.now.caller.limits.now document.old (widget_of document.old request.now) request.now.position
         (words_of request.now)) document.old document.new result }
 {
-    let (name, words) = first(request.arguments)?;
+    let (name, words) = request.one_or_more()?;
     let places = places_at(document, request.caller.seat, request.position + 1, words)?;
     document.add_spans(&request.caller, name, &places)
 }
@@ -46,7 +46,7 @@ pub fn tag_remove<S: TextStore>(
         (tag_remove document.old (widget_of document.old request.now) request.now.position (words_of request.now))
         document.old document.new result }
 {
-    let (name, words) = first(request.arguments)?;
+    let (name, words) = request.one_or_more()?;
     let places = places_at(document, request.caller.seat, request.position + 1, words)?;
     document.remove_spans(&request.caller, name, &places)
 }
@@ -61,7 +61,7 @@ pub fn tag_names<S: TextStore>(
         (tag_names document.now (widget_of document.now request.now) request.now.position (words_of request.now)) }
 {
     let seat = request.caller.seat;
-    match none_or_one(request.arguments)? {
+    match request.none_or_one()? {
         None => Ok(Answer::Text(document.all_tags()?)),
         Some(word) => {
             let place = document.place_at(seat, request.position, word)?;
@@ -78,7 +78,7 @@ pub fn tag_ranges<S: TextStore>(
     requires shown { request.now.caller.seat < length document.now.widgets }
     ensures { Gives result (tag_ranges_of document.now (widget_of document.now request.now) (words_of request.now)) }
 {
-    let name = one(request.arguments)?;
+    let name = request.one()?;
     Ok(Answer::Text(document.ranges_of(request.caller.seat, name)?))
 }
 
@@ -112,7 +112,7 @@ pub fn tag_nextrange<S: TextStore>(
     ensures { Gives result
         (tag_nextrange document.now (widget_of document.now request.now) request.now.position (words_of request.now)) }
 {
-    let (name, first, last) = two_or_three(request.arguments)?;
+    let (name, first, last) = request.two_or_three()?;
     let seat = request.caller.seat;
     let from = document.place_at(seat, request.position + 1, first)?;
     let to = place_or(
@@ -135,7 +135,7 @@ pub fn tag_prevrange<S: TextStore>(
     ensures { Gives result
         (tag_prevrange document.now (widget_of document.now request.now) request.now.position (words_of request.now)) }
 {
-    let (name, first, last) = two_or_three(request.arguments)?;
+    let (name, first, last) = request.two_or_three()?;
     let seat = request.caller.seat;
     let from = document.place_at(seat, request.position + 1, first)?;
     let to = place_or(document, seat, 0, request.position + 2, last)?;
@@ -150,7 +150,7 @@ pub fn tag_raise<S: TextStore>(
     ensures { (limits : LimitTable) → Does limits document.old document.new result
         (tag_raise document.old request.now.position (words_of request.now)) }
 {
-    let (name, above) = one_or_two(request.arguments)?;
+    let (name, above) = request.one_or_two()?;
     document.raise(request.position, name, above)
 }
 
@@ -162,6 +162,6 @@ pub fn tag_lower<S: TextStore>(
     ensures { (limits : LimitTable) → Does limits document.old document.new result
         (tag_lower document.old request.now.position (words_of request.now)) }
 {
-    let (name, below) = one_or_two(request.arguments)?;
+    let (name, below) = request.one_or_two()?;
     document.lower(request.position, name, below)
 }

@@ -13,7 +13,7 @@ ghost use Rattle.documents.specs.Listing.{is_filled};
 
 use crate::ranges::places_at;
 use crate::requests::Request;
-use command_effects::{Answer, Fault, first, pairs_at};
+use command_effects::{Answer, Fault, pairs_at};
 use documents::{Document, EditTold, push_filled};
 use std::alloc::AllocError;
 use text_model::{Text, TextStore};
@@ -32,7 +32,7 @@ pub fn insert<S: TextStore>(
         (insert request.now.caller.limits.now document.old (widget_of document.old request.now) request.now.position
         (words_of request.now)) document.old document.new result }
 {
-    let (index, words) = first(request.arguments)?;
+    let (index, words) = request.one_or_more()?;
     let seat = request.caller.seat;
     let place = document.place_at(seat, request.position, index)?;
     let pairs = pairs_at(document.allocator(), request.position + 1, words)?;

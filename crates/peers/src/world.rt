@@ -32,7 +32,7 @@ use crate::told::{Follows, Told, answered};
 use crate::widgets::peer_settings;
 use crate::windows::Windows;
 use crate::words::is_window_name;
-use command_effects::{Answer, Fault, Settings, first, is_word};
+use command_effects::{Answer, Fault, Settings, is_word};
 use command_table::{Command, shape};
 use documents::{Caller, Document, EditTold, MarkList};
 use std::alloc::{AllocError, Global};
@@ -218,7 +218,7 @@ impl<S: TextStore> World<S> {
             request.now.position (words_of request.now))) }
     {
         let document = &self.documents.list[place];
-        let (name, words) = first(request.arguments)?;
+        let (name, words) = request.one_or_more()?;
         if !is_window_name(name) {
             return Err(Fault::InvalidCommandName(request.position));
         }

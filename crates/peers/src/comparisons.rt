@@ -1,7 +1,7 @@
-//! The operators of `compare`: how they are spelled, and whether they hold of two places.
+//! The operators of `compare`: their spellings, and whether they hold of two places.
 
 ghost use Rattle.std.specs.Prelude.{◌≡◌, chars};
-ghost use Rattle.command_effects.specs.Comparisons.{comparison_of, holds};
+ghost use Rattle.peers.specs.Comparisons.{comparison_of, holds};
 
 use command_table::is_word;
 
@@ -23,7 +23,7 @@ pub enum Comparison {
 }
 
 impl Comparison {
-    /// The comparison that a word is, if it is one.
+    /// Returns the comparison that a word is, if it is one.
     pub fn read(word: &str) -> Option<Comparison>
         ensures { result ≡ comparison_of (chars word.now) }
     {
@@ -44,7 +44,7 @@ impl Comparison {
         }
     }
 
-    /// Whether it holds of two places.
+    /// Returns whether it holds of two places.
     pub fn holds(self, left: usize, right: usize) -> bool
         ensures { result ≡ holds self left right }
     {

@@ -1,10 +1,8 @@
 -- How two places are compared.
-use Rattle.std.specs.Prelude.{ℕ, nat_lt, nat_le, ◌==◌, Bool, not, List, Option, None, Some, Result, Ok, Err}
+use Rattle.std.specs.Prelude.{ℕ, nat_lt, nat_le, ◌==◌, Bool, not, List, Option, None, Some}
 use Rattle.std.specs.Prelude.{if◌then◌else◌}
-use Rattle.command_effects.specs.declared.answers.Fault.{Fault}
-use Rattle.command_effects.specs.declared.answers.Fault.TheVariants.{BadComparison}
-use Rattle.command_effects.specs.declared.comparisons.Comparison.{Comparison}
-use Rattle.command_effects.specs.declared.comparisons.Comparison.TheVariants.{Below, UpTo, Same, From, Above, Other}
+use Rattle.peers.specs.declared.comparisons.Comparison.{Comparison}
+use Rattle.peers.specs.declared.comparisons.Comparison.TheVariants.{Below, UpTo, Same, From, Above, Other}
 use Rattle.command_effects.specs.Words.{is_same, literal}
 
 abbrev pub comparison_of : List ℕ → Option Comparison
@@ -16,10 +14,6 @@ comparison_of word =
     else (if is_same word (literal ">") then Some Above
     else (if is_same word (literal "!=") then Some Other
     else None)))))
-
-abbrev pub comparison_at : ℕ → Option Comparison → Result Comparison Fault
-comparison_at position None = Err (BadComparison position)
-comparison_at position (Some comparison) = Ok comparison
 
 abbrev pub holds : Comparison → ℕ → ℕ → Bool
 holds Below a b = nat_lt a b
