@@ -207,7 +207,7 @@ fn undo<S: TextStore>(
         recording: RECORDING,
         follows: false,
     };
-    let plan = plan_undo(&rules, text, MarkNo(0))?;
+    let plan = plan_undo(&rules, text, MarkNo(0))?.expect(rt, "a group to undo");
     commit(plan, text);
     Ok(())
 }
@@ -229,7 +229,7 @@ fn redo<S: TextStore>(
         recording: RECORDING,
         follows: false,
     };
-    let plan = plan_redo(&rules, text, MarkNo(0))?;
+    let plan = plan_redo(&rules, text, MarkNo(0))?.expect(rt, "a group to redo");
     commit(plan, text);
     Ok(())
 }
@@ -275,7 +275,7 @@ fn undo_delta<S: TextStore>(
         recording: RECORDING,
         follows: true,
     };
-    let mut plan = plan_undo(&rules, text, MarkNo(0))?;
+    let mut plan = plan_undo(&rules, text, MarkNo(0))?.expect(rt, "a group to undo");
     Ok(plan.delta.take())
 }
 

@@ -321,21 +321,13 @@ module _ {limit : ℕ} {content : Content} {outline now : Outline} {before curso
 
 -- ---- what a plan leaves
 
-undone-is : (mark : ℕ) (found : Option (List Action)) (state : State)
-    → state_of (replayed_group mark (option_map (replays true) found) state).content
-    (replayed_group mark (option_map (replays true) found) state).anchors (group_moved log_undone found state.log)
-    ≡ undone_group mark found state
-undone-is mark None state = refl
-undone-is mark (Some group) state =
+undone-is : (mark : ℕ) (group : List Action) (state : State)
+    → state_of (replayed_group mark (replays true group) state).content
+    (replayed_group mark (replays true group) state).anchors (log_undone group state.log)
+    ≡ undone_group mark (Some group) state
+undone-is mark group state =
     ap₂ (λ (made : State) end. state_of (stood mark end state.content made.content) made.anchors
     (log_undone group state.log)) (back-undone group state) (back-end group)
-
-redone-is : (mark : ℕ) (found : Option (List Action)) (state : State)
-    → state_of (replayed_group mark (option_map (replays false) found) state).content
-    (replayed_group mark (option_map (replays false) found) state).anchors (group_moved log_redone found state.log)
-    ≡ redone_group mark found state
-redone-is mark None state = refl
-redone-is mark (Some group) state = refl
 
 -- the anchors of as many widgets
 redone-widgets : (action : Action) (state : State) → length (action_redone action state).anchors ≡ length state.anchors
@@ -351,11 +343,6 @@ group-widgets : (group : List Action) (state : State) → length (group_redone g
 group-widgets [] state = refl
 group-widgets (action ∷ actions) state =
     group-widgets actions (action_redone action state) ∙ redone-widgets action state
-
-replayed-widgets : (mark : ℕ) (found : Option (List Action)) (state : State) →
-    length (replayed_group mark found state).anchors ≡ length state.anchors
-replayed-widgets mark None state = refl
-replayed-widgets mark (Some group) state = group-widgets group state
 
 -- the mark of a number stands where the group ended
 pub mark-stood : (outline new : Outline) (content : Content) (mark : MarkNo) (found : Option Place) (place : Place)
@@ -379,59 +366,52 @@ stood-within (Some place) (Some at) len found bound is =
 
 -- ---- plans
 
-pub undo-fits-replay : (limit : ℕ) (history : History) (text : List ℕ) (found : Option (List Action)) →
-    FitsText limit text history → found ≡ next_undo history
-    → IfSome found (λ group. IsSome (repeated_group limit (replays true group) text))
-undo-fits-replay limit history text None fits is = tt
-undo-fits-replay limit history text (Some group) fits is =
-    let goes = undo-goes limit history text group fits (sym is) in
+pub undo-fits-replay : (limit : ℕ) (history : History) (text : List ℕ) (group : List Action) →
+    FitsText limit text history → next_undo history ≡ Some group
+    → IsSome (repeated_group limit (replays true group) text)
+undo-fits-replay limit history text group fits is =
+    let goes = undo-goes limit history text group fits is in
     subst (λ (found : Option (List ℕ)). IsSome found) (sym (back-reverted limit group text ∙ goes.1)) refl
 
-pub redo-fits-replay : (limit : ℕ) (history : History) (text : List ℕ) (found : Option (List Action)) →
-    FitsText limit text history → found ≡ next_redo history
-    → IfSome found (λ group. IsSome (repeated_group limit (replays false group) text))
-redo-fits-replay limit history text None fits is = tt
-redo-fits-replay limit history text (Some group) fits is =
-    let goes = redo-goes limit history text group fits (sym is) in
+pub redo-fits-replay : (limit : ℕ) (history : History) (text : List ℕ) (group : List Action) →
+    FitsText limit text history → next_redo history ≡ Some group
+    → IsSome (repeated_group limit (replays false group) text)
+redo-fits-replay limit history text group fits is =
+    let goes = redo-goes limit history text group fits is in
     subst (λ (found : Option (List ℕ)). IsSome found) (sym goes.1) refl
 
-pub plan-widgets : (mark : ℕ) (back : Bool) (found : Option (List Action)) (made content : Content)
-    (anchors old : List Anchors) (log : Log)
-    → ((log : Log) → state_of made anchors log
-    ≡ replayed_group mark (option_map (replays back) found) (state_of content old log)) →
+pub plan-widgets : (mark : ℕ) (group : List Action) (made content : Content) (anchors old : List Anchors) (log : Log)
+    → ((log : Log) → state_of made anchors log ≡ replayed_group mark group (state_of content old log)) →
     length anchors ≡ length old
-plan-widgets mark back found made content anchors old log makes =
-    ap (λ (s : State). length s.anchors) (makes log)
-    ∙ replayed-widgets mark (option_map (replays back) found) (state_of content old log)
+plan-widgets mark group made content anchors old log makes =
+    ap (λ (s : State). length s.anchors) (makes log) ∙ group-widgets group (state_of content old log)
 
-pub undo-planned : (mark : ℕ) (found : Option (List Action)) (effects : Option Effects) (made content : Content)
+pub undo-planned : (mark : ℕ) (group : List Action) (effects : Option Effects) (made content : Content)
     (old : List Anchors) (log : Log) → option_map (λ (e : Effects). e.notes) effects ≡ Some Undone
-    → found ≡ next_undo log.history
+    → next_undo log.history ≡ Some group
     → ((log : Log) → state_of made (anchors_left effects old) log
-    ≡ replayed_group mark (option_map (replays true) found) (state_of content old log))
+    ≡ replayed_group mark (replays true group) (state_of content old log))
     → planned effects made old log ≡ undone mark (state_of content old log)
-undo-planned mark found None made content old log notes_are found_is makes = absurd (none-some _ notes_are)
-undo-planned mark found (Some effects) made content old log notes_are found_is makes =
+undo-planned mark group None made content old log notes_are is makes = absurd (none-some _ notes_are)
+undo-planned mark group (Some effects) made content old log notes_are is makes =
     let state = state_of content old log in
+    let new = replayed_group mark (replays true group) state in
     ap (λ n. state_of made effects.anchors.items (log_after n log)) (same_Some _ _ notes_are)
     ∙ ap (λ (s : State). state_of s.content s.anchors (group_moved log_undone (next_undo log.history) log)) (makes log)
-    ∙ ap (λ f. state_of (replayed_group mark (option_map (replays true) f) state).content
-    (replayed_group mark (option_map (replays true) f) state).anchors
-    (group_moved log_undone (next_undo log.history) log)) found_is
-    ∙ undone-is mark (next_undo log.history) state
+    ∙ ap (λ found. state_of new.content new.anchors (group_moved log_undone found log)) is
+    ∙ undone-is mark group state ∙ ap (λ found. undone_group mark found state) (sym is)
 
-pub redo-planned : (mark : ℕ) (found : Option (List Action)) (effects : Option Effects) (made content : Content)
+pub redo-planned : (mark : ℕ) (group : List Action) (effects : Option Effects) (made content : Content)
     (old : List Anchors) (log : Log) → option_map (λ (e : Effects). e.notes) effects ≡ Some Redone
-    → found ≡ next_redo log.history
+    → next_redo log.history ≡ Some group
     → ((log : Log) → state_of made (anchors_left effects old) log
-    ≡ replayed_group mark (option_map (replays false) found) (state_of content old log))
+    ≡ replayed_group mark (replays false group) (state_of content old log))
     → planned effects made old log ≡ redone mark (state_of content old log)
-redo-planned mark found None made content old log notes_are found_is makes = absurd (none-some _ notes_are)
-redo-planned mark found (Some effects) made content old log notes_are found_is makes =
+redo-planned mark group None made content old log notes_are is makes = absurd (none-some _ notes_are)
+redo-planned mark group (Some effects) made content old log notes_are is makes =
     let state = state_of content old log in
+    let new = replayed_group mark (replays false group) state in
     ap (λ n. state_of made effects.anchors.items (log_after n log)) (same_Some _ _ notes_are)
     ∙ ap (λ (s : State). state_of s.content s.anchors (group_moved log_redone (next_redo log.history) log)) (makes log)
-    ∙ ap (λ f. state_of (replayed_group mark (option_map (replays false) f) state).content
-    (replayed_group mark (option_map (replays false) f) state).anchors
-    (group_moved log_redone (next_redo log.history) log)) found_is
-    ∙ redone-is mark (next_redo log.history) state
+    ∙ ap (λ found. state_of new.content new.anchors (group_moved log_redone found log)) is
+    ∙ ap (λ found. redone_group mark found state) (sym is)

@@ -1,6 +1,6 @@
 -- A group of actions is made once more, or reverted, by an outline with a cursor in what it makes.
-use Rattle.std.specs.Prelude.{◌≡◌, ◌<◌, ◌^◌, ℕ, ◌+◌, Bool, true, false, not, List, map, length, reverse, Option, None}
-use Rattle.std.specs.Prelude.{Some, if◌then◌else◌}
+use Rattle.std.specs.Prelude.{◌≡◌, ◌<◌, ◌^◌, ℕ, ◌+◌, Bool, true, false, not, List, map, length, reverse}
+use Rattle.std.specs.Prelude.{if◌then◌else◌}
 use Rattle.std.specs.Char.{IsScalar}
 use Rattle.std.specs.List.{All}
 use Rattle.text_model.specs.Content.{Content, characters}
@@ -53,10 +53,9 @@ abbrev pub replays : Bool → List Action → List Action
 replays false group = group
 replays true group = map (replayed true) (reverse group)
 
--- a group of actions is made, if there is one, and the mark of a number stands where that ends
-abbrev pub replayed_group : ℕ → Option (List Action) → State → State
-replayed_group mark None state = state
-replayed_group mark (Some group) state =
+-- a group of actions is made, and the mark of a number is where that ends
+abbrev pub replayed_group : ℕ → List Action → State → State
+replayed_group mark group state =
     let made = group_redone group state in
     record made { content = stood mark (redo_end group) state.content made.content }
 

@@ -27,8 +27,8 @@ use text_cursor::{line_at, line_behind};
 use text_model::{MarkNo, Place, TextStore};
 use undo_stack::EditKind;
 
-/// The edit that deletes the characters of a span, with the text of its action where that is to be kept, and with room
-/// for so many steps.
+/// Returns the edit that deletes the characters of a span, with the text of its action where that is kept, and with
+/// space for `room` steps.
 fn outline_removal<S: TextStore>(
     rules: &EditRules<'_>,
     text: &EditedText<S>,
@@ -63,7 +63,7 @@ fn outline_removal<S: TextStore>(
     Ok(outline)
 }
 
-/// The place of a mark that stands before a character that is replaced by so many.
+/// Returns the place of a mark within a range, once the range is replaced by `count` characters.
 fn clipped(place: Option<Place>, from: usize, to: usize, count: usize) -> Option<Place>
     ensures { result ≡ option_and_then (clipped from to count) place }
 {

@@ -1,8 +1,8 @@
 //! Plans of undo and redo: the last group of actions is reverted, or made once more.
 
 ghost use Rattle.std.specs.Prelude.{◌≡◌, ◌+◌, ◌-◌, ◌<◌, ◌≤◌, ◌^◌, ◌∷◌, [], not, length, option_map, OnOk, IfOk, Some};
-ghost use Rattle.std.specs.Prelude.{IsSome, IfSome, true, false, if◌then◌else◌, List, ℕ};
-ghost use Rattle.std.specs.Prelude.{option_and_then};
+ghost use Rattle.std.specs.Prelude.{None, Ok, IsSome, IfSome, true, false, if◌then◌else◌, List, ℕ};
+ghost use Rattle.std.specs.Prelude.{◌↔◌, option_and_then};
 ghost use Rattle.std.specs.Char.{IsScalar};
 ghost use Rattle.std.specs.List.{All};
 ghost use Rattle.edit_ops.specs.Anchors.{AnchorsStand};
@@ -41,7 +41,7 @@ fn puts_in(action: &Action, back: bool) -> bool
     }
 }
 
-/// Which of so many actions is the one at an index, counted from the last where they are reverted.
+/// Returns which of `count` actions is the one at an index, counted from the last where they are reverted.
 fn nth_of(index: usize, count: usize, back: bool) -> usize
     requires { index < count }
     ensures place { result ≡ (if back then count - 1 - index else index) }
@@ -63,7 +63,7 @@ fn stood(place: Option<Place>, end: Option<usize>) -> Option<Place>
 }
 
 impl Outline {
-    /// Puts a text of so many characters back at an offset, with the slots that the characters on both sides share.
+    /// Inserts a text of `count` characters at an offset again, with the slots that the characters on both sides share.
     fn put_back<S: TextStore>(
         &mut self,
         store: &S,
@@ -228,7 +228,7 @@ fn outline_group<S: TextStore>(
         (characters (S.content text.now.store).cells)) }
     ensures fits { IfOk result (λ made. Fits made.0.steps (S.content text.now.store)) }
     ensures makes { IfOk result (λ made. (log : Log) → drawn_up made.0 (S.content text.now.store) log
-        ≡ replayed_group mark.0 (Some (replays back group.now))
+        ≡ replayed_group mark.0 (replays back group.now)
         (state_of (S.content text.now.store) text.now.anchors.items log)) }
     ensures bounds { AreLimits rules.now.limits.now }
     ensures scalars { OnOk result (AreScalars (replays back group.now)) }
@@ -245,33 +245,6 @@ fn outline_group<S: TextStore>(
     outline.put_end(store, mark, end)?;
     let delta = delta_of(alloc, cursor, rules.follows)?;
     Ok((outline, delta))
-}
-
-/// The same, if there is a group; else an edit that does nothing.
-fn outline_reversal<S: TextStore>(
-    rules: &EditRules<'_>,
-    text: &EditedText<S>,
-    group: Option<Group<'_>>,
-    back: bool,
-    mark: MarkNo,
-) -> Result<(Outline, Option<Box<Delta>>), AllocError>
-    requires stand { All (AnchorsStand (length (S.content text.now.store).cells)) text.now.anchors.items }
-    requires fits { IfSome group (λ group. IsSome (repeated_group rules.now.limits.now.chars (replays back group)
-        (characters (S.content text.now.store).cells))) }
-    ensures fits { IfOk result (λ made. Fits made.0.steps (S.content text.now.store)) }
-    ensures makes { IfOk result (λ made. (log : Log) → drawn_up made.0 (S.content text.now.store) log
-        ≡ replayed_group mark.0 (option_map (replays back) group.entry)
-        (state_of (S.content text.now.store) text.now.anchors.items log)) }
-    ensures bounds { OnOk result (IsSome group.entry → AreLimits rules.now.limits.now) }
-    ensures scalars { OnOk result (IfSome group.entry (λ group. AreScalars (replays back group))) }
-    ensures delta { IfSome group.entry (λ group. IfOk result (λ made.
-        KnowsDelta rules.now.follows (replays back group) (S.content text.now.store).cells
-        (after made.0.steps (S.content text.now.store)).cells made.1)) }
-{
-    match group {
-        None => Ok((Outline::new(rules.alloc, text, 0)?, None)),
-        Some(group) => outline_group(rules, text, &group, back, mark),
-    }
 }
 
 /// Returns the plan of an edit with its delta and with what it does to the history.
@@ -302,66 +275,74 @@ fn plan_reversal<S: TextStore>(
     prepare_steps(text, steps, Some(Effects { anchors, notes }), delta)
 }
 
-/// A plan that reverts the actions of the last group, the last first; nothing, where there is no group. A text that was
-/// put in is taken out, and one that was taken out comes back with the slots that the characters on both sides share.
-/// The mark of a number, if there is one, then stands where the last of that ends. The group counts as undone, and
+/// Returns a plan that reverts the actions of the last group, the last first, or `None` where there is no group. A text
+/// that was inserted is removed, and one that was removed comes back with the slots that the characters on both sides
+/// share. The mark of a number, if there is one, then is where the last of that ends. The group counts as undone, and
 /// nothing is noted (text(n), "edit undo"). It isn't refused for its length, since the history fits the text within the
-/// limit. The plan of no group has no delta.
+/// limit.
 pub fn plan_undo<S: TextStore>(
     rules: &EditRules<'_>,
     text: &mut EditedText<S>,
     mark: MarkNo,
-) -> Result<Plan<S>, AllocError>
+) -> Result<Option<Plan<S>>, AllocError>
     requires stand { All (AnchorsStand (length (S.content text.old.store).cells)) text.old.anchors.items }
     requires fits { FitsText rules.now.limits.now.chars (characters (S.content text.old.store).cells)
         text.old.history.history }
     ensures same { IsUnchanged S.content text.old text.new }
+    ensures none { result ≡ Ok None ↔ next_undo text.old.history.history ≡ None }
     ensures bounds { OnOk result (IsSome (next_undo text.old.history.history) → AreLimits rules.now.limits.now) }
     ensures scalars { OnOk result
         (IfSome (next_undo text.old.history.history) (λ group. AreScalars (replays true group))) }
-    ensures ready { IfOk result (λ plan. S.ready text.new.store plan.prepared) }
-    ensures room { IfOk result (λ plan. HasRoomFor plan.effects text.new.history) }
-    ensures widgets { IfOk result (λ plan. KeepsWidgets plan.effects text.old.anchors.items) }
-    ensures outcome { IfOk result (λ plan.
+    ensures ready { IfOk result (λ found. IfSome found (λ plan. S.ready text.new.store plan.prepared)) }
+    ensures room { IfOk result (λ found. IfSome found (λ plan. HasRoomFor plan.effects text.new.history)) }
+    ensures widgets { IfOk result (λ found. IfSome found (λ plan.
+        KeepsWidgets plan.effects text.old.anchors.items)) }
+    ensures outcome { IfOk result (λ found. IfSome found (λ plan.
         planned plan.effects (S.outcome text.new.store plan.prepared) text.old.anchors.items (log_of text.old.history)
-        ≡ undone mark.0 (state_in S.content text.old)) }
-    ensures delta { IfSome (next_undo text.old.history.history) (λ group. IfOk result (λ plan.
+        ≡ undone mark.0 (state_in S.content text.old))) }
+    ensures delta { IfSome (next_undo text.old.history.history) (λ group. IfOk result (λ found. IfSome found (λ plan.
         KnowsDelta rules.now.follows (replays true group) (S.content text.old.store).cells
-        (S.outcome text.new.store plan.prepared).cells plan.delta)) }
+        (S.outcome text.new.store plan.prepared).cells plan.delta))) }
 {
-    let group = text.history.last_undo();
-    let (outline, delta) = outline_reversal(rules, text, group, true, mark)?;
+    let Some(group) = text.history.last_undo() else {
+        return Ok(None);
+    };
+    let (outline, delta) = outline_group(rules, text, &group, true, mark)?;
     let plan = plan_reversal(text, outline, delta, Notes::Undone)?;
-    Ok(plan)
+    Ok(Some(plan))
 }
 
-/// A plan that makes the actions of the group that was undone last once more, the first first; nothing, where there is
-/// no such group. Texts come back and are taken out as by `plan_undo`, and the mark of a number stands where the last
-/// of that ends. The group no longer counts as undone (text(n), "edit redo"). The plan of no group has no delta.
+/// Returns a plan that makes the actions of the group that was undone last once more, the first first, or `None` where
+/// there is no such group. Texts come back and are removed as by `plan_undo`, and the mark of a number is where the
+/// last of that ends. The group no longer counts as undone (text(n), "edit redo").
 pub fn plan_redo<S: TextStore>(
     rules: &EditRules<'_>,
     text: &mut EditedText<S>,
     mark: MarkNo,
-) -> Result<Plan<S>, AllocError>
+) -> Result<Option<Plan<S>>, AllocError>
     requires stand { All (AnchorsStand (length (S.content text.old.store).cells)) text.old.anchors.items }
     requires fits { FitsText rules.now.limits.now.chars (characters (S.content text.old.store).cells)
         text.old.history.history }
     ensures same { IsUnchanged S.content text.old text.new }
+    ensures none { result ≡ Ok None ↔ next_redo text.old.history.history ≡ None }
     ensures bounds { OnOk result (IsSome (next_redo text.old.history.history) → AreLimits rules.now.limits.now) }
     ensures scalars { OnOk result
         (IfSome (next_redo text.old.history.history) (λ group. AreScalars (replays false group))) }
-    ensures ready { IfOk result (λ plan. S.ready text.new.store plan.prepared) }
-    ensures room { IfOk result (λ plan. HasRoomFor plan.effects text.new.history) }
-    ensures widgets { IfOk result (λ plan. KeepsWidgets plan.effects text.old.anchors.items) }
-    ensures outcome { IfOk result (λ plan.
+    ensures ready { IfOk result (λ found. IfSome found (λ plan. S.ready text.new.store plan.prepared)) }
+    ensures room { IfOk result (λ found. IfSome found (λ plan. HasRoomFor plan.effects text.new.history)) }
+    ensures widgets { IfOk result (λ found. IfSome found (λ plan.
+        KeepsWidgets plan.effects text.old.anchors.items)) }
+    ensures outcome { IfOk result (λ found. IfSome found (λ plan.
         planned plan.effects (S.outcome text.new.store plan.prepared) text.old.anchors.items (log_of text.old.history)
-        ≡ redone mark.0 (state_in S.content text.old)) }
-    ensures delta { IfSome (next_redo text.old.history.history) (λ group. IfOk result (λ plan.
+        ≡ redone mark.0 (state_in S.content text.old))) }
+    ensures delta { IfSome (next_redo text.old.history.history) (λ group. IfOk result (λ found. IfSome found (λ plan.
         KnowsDelta rules.now.follows (replays false group) (S.content text.old.store).cells
-        (S.outcome text.new.store plan.prepared).cells plan.delta)) }
+        (S.outcome text.new.store plan.prepared).cells plan.delta))) }
 {
-    let group = text.history.last_redo();
-    let (outline, delta) = outline_reversal(rules, text, group, false, mark)?;
+    let Some(group) = text.history.last_redo() else {
+        return Ok(None);
+    };
+    let (outline, delta) = outline_group(rules, text, &group, false, mark)?;
     let plan = plan_reversal(text, outline, delta, Notes::Redone)?;
-    Ok(plan)
+    Ok(Some(plan))
 }
