@@ -3,8 +3,9 @@ use Rattle.documents.proofs.Common.{◌≡◌, ◌+◌, ◌++◌, true, false, n
 use Rattle.documents.proofs.Common.{if◌then◌else◌, Action, replayed, replays, back-cons, Document, without_cells}
 use Rattle.documents.proofs.Common.{action_again, action_back, group_again, group_back, text_back, Option, None, Some}
 use Rattle.documents.proofs.Common.{Empty, Widget, next_undo, next_redo, edit_undo, edit_redo, undo_found, redo_found}
-use Rattle.documents.proofs.Common.{undone, redone, is_idle, answered, edited, refused, is_some, some_is, NothingToUndo}
-use Rattle.documents.proofs.Common.{NothingToRedo}
+use Rattle.documents.proofs.Common.{undone, redone, is_idle, answered, edited, refused, is_some, NothingToUndo}
+use Rattle.documents.proofs.Common.{NothingToRedo, Ok, Result, sym, ◌↔◌}
+use Rattle.edit_ops.proofs.RunLaws.{some_is}
 
 -- the actions of a group that are reverted, the last first
 again-append : (actions others : List Action) (document : Document)
@@ -101,6 +102,13 @@ pub redo-done : (document : Document) (widget : Widget) (group : List Action) �
 redo-done document widget group on is active =
     redo-as document widget (Some group) on is
     ∙ ap (λ b. if b then answered document Empty else edited (redone widget group document) (replays false group)) active
+
+-- where there is a plan there is a group
+pub group-planned : {A E : Type 0} (result : Result (Option A) E) (found : Option (List Action)) (plan : A)
+    → (result ≡ Ok None ↔ found ≡ None) → result ≡ Ok (Some plan) → (group : List Action) × (found ≡ Some group)
+group-planned result None plan none made =
+    absurd (let h : Ok (Some plan) ≡ Ok None = sym made ∙ none.1 refl in cc)
+group-planned result (Some group) plan none made = (group, refl)
 
 -- what holds of the document, and of it with the last group undone, holds after the command
 pub undo-carried : (P : Document → Type 0) (document : Document) (widget : Widget) → P document →

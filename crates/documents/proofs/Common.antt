@@ -68,13 +68,13 @@ pub use Rattle.edit_ops.proofs.KeepLaws.{deleted-kept, deleted-runs, replaced-ke
 pub use Rattle.edit_ops.proofs.ReversalLaws.{back-cons, back-reverted, back-undone, group-redone-text}
 pub use Rattle.edit_ops.proofs.ReversalLaws.{group-undone-text, guarded, guarded-holds, redone-kept, redone-text}
 pub use Rattle.edit_ops.proofs.ReversalLaws.{undone-kept}
-pub use Rattle.edit_ops.proofs.RunLaws.{some_is}
 pub use Rattle.edit_ops.proofs.StartLaws.{Begins, inserted-behind, is-start, removed-behind, text-end-begins}
 pub use Rattle.edit_ops.specs.Anchors.{AnchorsStand, AreAnchored, anchors_moved, anchors_removed}
 pub use Rattle.edit_ops.specs.Deletions.{AreApart, delete_set, deleted, deletions_in, in_spans, removed_spans}
 pub use Rattle.edit_ops.specs.Deletions.{runs_below}
 pub use Rattle.edit_ops.specs.Deltas.{KnowsDelta}
 pub use Rattle.edit_ops.specs.Insertions.{inserted_text, inserted_texts, pieces_text, slots_or}
+pub use Rattle.edit_ops.specs.Plans.{planned}
 pub use Rattle.edit_ops.specs.Removals.{clipped, removed_span, replaced_span}
 pub use Rattle.edit_ops.specs.Replays.{AreScalars, replayed, replays}
 pub use Rattle.edit_ops.specs.Reversals.{action_redone, group_redone, group_undone, log_redone, log_undone, put_back}
@@ -144,7 +144,7 @@ pub use Rattle.std.specs.Char.{IsScalar}
 pub use Rattle.std.specs.List.{All, AllByRecursion, cons_option, flat_map, list_any, position_from}
 pub use Rattle.std.specs.Option.{option_or}
 pub use Rattle.std.specs.Ordering.{eq_by_cmp, is_eq, nat_cmp}
-pub use Rattle.std.specs.Prelude.{IsErr, IsErrAnd, IsUtf8, box_value, codes, decimal, is_ok, reverse, unwrap_or}
+pub use Rattle.std.specs.Prelude.{◌↔◌, IsErr, IsErrAnd, IsUtf8, box_value, codes, decimal, is_ok, reverse, unwrap_or}
 pub use Rattle.tag_table.specs.Priority.{IsOrdered, IsUnknown, Order, lowered, raised}
 pub use Rattle.tag_table.specs.Tags.{AreTags, Tag, Tags, first_slot, names_of, sel, slot_of, slots_of}
 pub use Rattle.tag_table.specs.declared.faults.NoSuchTag.TheVariants.{Moved, Neighbour}

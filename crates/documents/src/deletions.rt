@@ -14,7 +14,7 @@ use crate::callers::Caller;
 use crate::documents::Document;
 use crate::views::{end_of, start_of};
 use command_effects::{Fault, Pair, plan_replacement, spans_of};
-use edit_ops::{EditRules, Target, commit, plan_delete};
+use edit_ops::{Target, commit, plan_delete};
 use reports::{EditTold, report};
 use text_model::{MarkNo, TagSlot, TextStore};
 
@@ -38,12 +38,7 @@ impl<S: TextStore> Document<S> {
         let start = start_of(&self.text.anchors, slot);
         let end = end_of(&self.text.anchors, slot, self.text.store.len());
         let spans = spans_of(self.alloc, start, end - start, places)?;
-        let rules = EditRules {
-            alloc: self.alloc,
-            limits: caller.limits,
-            recording: self.settings.recording(),
-            follows: caller.follows,
-        };
+        let rules = caller.rules(self.alloc, self.settings);
         let mut plan = plan_delete(&rules, &mut self.text, start, end, &spans)?;
         let delta = plan.delta.take();
         let told = report(self.alloc, &self.seats, &self.tags, &self.text.store, delta)?;
@@ -76,12 +71,7 @@ impl<S: TextStore> Document<S> {
         let start = start_of(&self.text.anchors, slot);
         let last = end_of(&self.text.anchors, slot, self.text.store.len()) - 1;
         let front = self.tags.len();
-        let rules = EditRules {
-            alloc: self.alloc,
-            limits: caller.limits,
-            recording: self.settings.recording(),
-            follows: caller.follows,
-        };
+        let rules = caller.rules(self.alloc, self.settings);
         let target = Target {
             last,
             from: start + from,

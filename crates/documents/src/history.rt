@@ -13,7 +13,7 @@ ghost use Rattle.undo_stack.specs.Modified.{is_modified};
 use crate::callers::Caller;
 use crate::documents::Document;
 use command_effects::{Answer, Fault};
-use edit_ops::{EditRules, commit, plan_redo, plan_undo};
+use edit_ops::{commit, plan_redo, plan_undo};
 use reports::{EditTold, report};
 use text_model::{MarkNo, TextStore};
 
@@ -81,20 +81,17 @@ impl<S: TextStore> Document<S> {
         if !self.settings.undo {
             return Ok(EditTold::nothing(self.alloc));
         }
-        if self.text.history.last_undo().is_none() {
-            return Err(Fault::NothingToUndo);
-        }
         if self.is_idle(caller.seat) {
+            if self.text.history.last_undo().is_none() {
+                return Err(Fault::NothingToUndo);
+            }
             return Ok(EditTold::nothing(self.alloc));
         }
-        let rules = EditRules {
-            alloc: self.alloc,
-            limits: caller.limits,
-            recording: self.settings.recording(),
-            follows: caller.follows,
-        };
+        let rules = caller.rules(self.alloc, self.settings);
         let insert = MarkNo(2 * self.seats.number(caller.seat));
-        let mut plan = plan_undo(&rules, &mut self.text, insert)?;
+        let Some(mut plan) = plan_undo(&rules, &mut self.text, insert)? else {
+            return Err(Fault::NothingToUndo);
+        };
         let delta = plan.delta.take();
         let told = report(self.alloc, &self.seats, &self.tags, &self.text.store, delta)?;
         commit(plan, &mut self.text);
@@ -113,20 +110,17 @@ impl<S: TextStore> Document<S> {
         if !self.settings.undo {
             return Ok(EditTold::nothing(self.alloc));
         }
-        if self.text.history.last_redo().is_none() {
-            return Err(Fault::NothingToRedo);
-        }
         if self.is_idle(caller.seat) {
+            if self.text.history.last_redo().is_none() {
+                return Err(Fault::NothingToRedo);
+            }
             return Ok(EditTold::nothing(self.alloc));
         }
-        let rules = EditRules {
-            alloc: self.alloc,
-            limits: caller.limits,
-            recording: self.settings.recording(),
-            follows: caller.follows,
-        };
+        let rules = caller.rules(self.alloc, self.settings);
         let insert = MarkNo(2 * self.seats.number(caller.seat));
-        let mut plan = plan_redo(&rules, &mut self.text, insert)?;
+        let Some(mut plan) = plan_redo(&rules, &mut self.text, insert)? else {
+            return Err(Fault::NothingToRedo);
+        };
         let delta = plan.delta.take();
         let told = report(self.alloc, &self.seats, &self.tags, &self.text.store, delta)?;
         commit(plan, &mut self.text);

@@ -24,7 +24,6 @@ use crate::views::view_of;
 use command_effects::{
     Answer, Fault, clear_slots, delete_names, deleted_slots, find_tag, set_slot, tag_spans,
 };
-use edit_ops::EditRules;
 use reports::EditTold;
 use std::alloc::AllocError;
 use tag_table::NoSuchTag;
@@ -151,12 +150,7 @@ impl<S: TextStore> Document<S> {
         let spans = self.spans_at(caller.seat, places)?;
         let tags = self.span_tags(caller, name, &spans, true)?;
         let front = self.tags.len();
-        let rules = EditRules {
-            alloc: self.alloc,
-            limits: caller.limits,
-            recording: self.settings.recording(),
-            follows: caller.follows,
-        };
+        let rules = caller.rules(self.alloc, self.settings);
         let tagged = tag_spans(
             &rules,
             &mut self.tags,

@@ -10,7 +10,7 @@ ghost use Rattle.documents.specs.Views.{is_idle, shown};
 use crate::callers::Caller;
 use crate::documents::Document;
 use command_effects::{Fault, Pair, plan_pairs};
-use edit_ops::{EditRules, commit};
+use edit_ops::commit;
 use reports::{EditTold, report};
 use std::alloc::AllocError;
 use text_model::{TagSlot, Text, TextStore};
@@ -68,12 +68,7 @@ impl<S: TextStore> Document<S> {
     {
         let slot = TagSlot(self.seats.number(caller.seat));
         let front = self.tags.len();
-        let rules = EditRules {
-            alloc: self.alloc,
-            limits: caller.limits,
-            recording: self.settings.recording(),
-            follows: caller.follows,
-        };
+        let rules = caller.rules(self.alloc, self.settings);
         let planned = plan_pairs(&rules, &mut self.tags, slot, &mut self.text, at, pairs);
         let mut plan = match planned {
             Ok(plan) => plan,

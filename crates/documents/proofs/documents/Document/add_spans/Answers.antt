@@ -1,6 +1,6 @@
-use Rattle.documents.proofs.Common.{ℕ, true, length, refl, sym, subst, ap, ◌∙◌, refused, Ok, Empty, All, known_tags}
-use Rattle.documents.proofs.Common.{sel, slot_of, log_of, SpanFits, tagged, widget_at, parts_of, Stands, add_spans}
-use Rattle.documents.proofs.Common.{chars, take, Foretells, TellsTags, with_tag, key_of}
+use Rattle.documents.proofs.Common.{ℕ, true, arith, LimitTable, length, refl, sym, subst, ap, ◌∙◌, refused, Ok, Empty}
+use Rattle.documents.proofs.Common.{All, known_tags, sel, slot_of, log_of, SpanFits, tagged, widget_at, parts_of}
+use Rattle.documents.proofs.Common.{Stands, add_spans, chars, take, Foretells, TellsTags, with_tag, key_of}
 use Rattle.documents.proofs.ChangeLaws.{Leaves, leaves-left}
 use Rattle.documents.proofs.InsertionLaws.{stands-back}
 use Rattle.documents.proofs.PartsLaws.{cells-kept, sits, stand}
@@ -42,6 +42,8 @@ left g c =
     let word = chars c.args.name.now in
     let widget = c.number-number.result in
     let stands = stand c.self.invariant c.self.view_is in
+    let few = c.in-Ok.ensures.few in
+    let most = ap (λ (limits : LimitTable). limits.tags) c.rules-rules.ensures.limits in
     let found = found_by (λ slot. tagged slot true c.deref-2.result.now parts.content)
     (known_tags new.tags.tags widget word) (g.S.TextStore.content new.text.store) c.in-Ok.ensures.ok in
     leaves-added c.args.caller.now.limits.now c.args.places.now stands
@@ -52,7 +54,8 @@ left g c =
       is = found.1;
       fit = fit g (goal.at.returns-in-Ok-clause-does g c).After-deref-2;
       content_is = found.2;
-    }) c.in-Ok.ensures.log c.deref-2.ensures.value c.in_ok-spans.ensures.value c.in-Ok.ensures.made c.in-Ok.ensures.few
+    }) c.in-Ok.ensures.log c.deref-2.ensures.value c.in_ok-spans.ensures.value c.in-Ok.ensures.made
+    (omega (arith, few, most))
 
 pub invariant_of-self : goal.invariant_of-self
 invariant_of-self g c = rw c.in-Ok.ensures.anchors (left g c).sound
@@ -86,7 +89,8 @@ invariant_of-self-in-Err g c = rw c.in-Err.ensures.anchors (back g c).sound
 pub returns-clause-does : goal.returns-clause-does
 returns-clause-does g c =
     let limits = c.args.caller.now.limits.now in
+    let most = ap (λ (limits : LimitTable). limits.tags) c.rules-rules.ensures.limits in
     rw c.in-Err.ensures.anchors (leaves-left (back g (goal.at.returns-clause-does g c).After-truncate) (λ other.
     let found = c.in-Err.ensures.fault other in
     added-left limits c.args.caller.now.seat (chars c.args.name.now) c.args.places.now
-    (stand c.self.invariant c.self.view_is) found.1 ∙ ap (refused c.args.self.now) (sym found.0))).does
+    (stand c.self.invariant c.self.view_is) (omega (arith, found.1, most)) ∙ ap (refused c.args.self.now) (sym found.0))).does

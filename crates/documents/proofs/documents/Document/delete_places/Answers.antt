@@ -64,7 +64,7 @@ made g c =
     let same = c.in_ok-plan.ensures.same in
     planned-made c.in_ok-plan.plan.effects c.commit.ensures same.2 same.1 c.in_ok-plan.ensures.outcome
     ∙ ap (λ recording. deleted recording c.start_of-start.result c.end_of-end.result c.deref-3.result.now
-    (state_in (parts_of g.S.TextStore.content c.self.inside))) c.recording.ensures
+    (state_in (parts_of g.S.TextStore.content c.self.inside))) c.rules-rules.ensures.recording
 
 -- what is left where the spans are deleted
 left : (g : Over) (c : After-drop-spans-2 g) (limits : LimitTable)
@@ -103,7 +103,7 @@ returns-clause-told g c = λ follows.
     told-planned pairs c.in_ok-told.ensures c.take-delta.ensures.value
     (ap (λ (content : Content). content.cells) c.in_ok-plan.ensures.same.0)
     (ap (λ (state : State). state.content.cells) c.commit.ensures)
-    follows same c.in_ok-plan.ensures.delta (ap (λ (d : Document). d.cells) c.self.view_is)
+    (c.rules-rules.ensures.follows ∙ follows) same c.in_ok-plan.ensures.delta (ap (λ (d : Document). d.cells) c.self.view_is)
 
 pub returns-in_err-spans : goal.returns-in_err-spans
 returns-in_err-spans g c =

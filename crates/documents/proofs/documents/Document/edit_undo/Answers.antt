@@ -1,9 +1,10 @@
 use Rattle.documents.proofs.Common.{box_value, ◌≡◌, ◌*◌, Some, Empty, Ok, ap, sym, subst, ◌∙◌, next_undo, Action, true}
 use Rattle.documents.proofs.Common.{List, log_of, state_of, widget_at, parts_of, edit_undo, replays, IfSome, length}
-use Rattle.documents.proofs.Common.{AreHunks, Content, is_some, Document, not, State, some_is, KnowsDelta, AreScalars}
+use Rattle.documents.proofs.Common.{AreHunks, Content, is_some, Document, not, State, KnowsDelta, AreScalars}
 use Rattle.documents.proofs.Common.{IfOk-from_err, NothingToUndo, Stands, refl, known-stand, planned-made, told-planned}
+use Rattle.documents.proofs.Common.{planned, LimitTable, AreLimits, FitsText}
 use Rattle.edit_ops.specs.Reversals.{undone}
-use Rattle.documents.proofs.BackLaws.{undo-idle, undo-none, undo-off}
+use Rattle.documents.proofs.BackLaws.{group-planned, undo-idle, undo-none, undo-off}
 use Rattle.documents.proofs.ChangeLaws.{Leaves, does-left, does-nothing}
 use Rattle.documents.proofs.PartsLaws.{pairs_of, sits, stand}
 use Rattle.documents.proofs.ReversalLaws.{CanRevert, leaves-undone, undone-edits}
@@ -11,7 +12,8 @@ use Rattle.documents.proofs.StateLaws.{anchors-stand, stands-unedited, state_in,
 use Rattle.documents.proofs.ToldLaws.{does-refused, told-idle}
 use Rattle.documents.proofs.WellFormedLaws.{fits-kept}
 use Rattle.documents.proofs.documents.Document.edit_undo.Given.{Over}
-use Rattle.documents.proofs.documents.Document.edit_undo.Goals.{After-plan_undo, In_ok-plan, After-commit}
+use Rattle.documents.proofs.documents.Document.edit_undo.Goals.{After-plan_undo, In-Some, After-commit}
+use Rattle.text_model.specs.Content as text
 use Rattle.documents.proofs.documents.Document.edit_undo.Goals as goal
 
 pub plan_undo-requires-clause-stand : goal.plan_undo-requires-clause-stand
@@ -19,10 +21,13 @@ plan_undo-requires-clause-stand g c = anchors-stand (stand c.self.invariant c.se
 
 pub plan_undo-requires-clause-fits : goal.plan_undo-requires-clause-fits
 plan_undo-requires-clause-fits g c =
-    fits-kept c.args.caller.now.limits.now (parts_of g.S.TextStore.content c.self.inside) c.args.self.now
-    c.self.view_is c.requires.formed
+    subst (λ (limits : LimitTable). FitsText limits.chars
+    (text.characters (g.S.TextStore.content c.self.inside.text.store).cells) c.self.inside.text.history.history)
+    (sym c.rules-rules.ensures.limits)
+    (fits-kept c.args.caller.now.limits.now (parts_of g.S.TextStore.content c.self.inside) c.args.self.now
+    c.self.view_is c.requires.formed)
 
-can : (g : Over) (c : In_ok-plan g)
+can : (g : Over) (c : In-Some g)
     → CanRevert (parts_of g.S.TextStore.content c.self.inside) c.args.self.now c.args.caller.now.seat c.number.result
 can g c =
     let stands = stand c.self.invariant c.self.view_is in
@@ -34,44 +39,48 @@ can g c =
     }
 
 -- the group
-found : (g : Over) (c : In_ok-plan g)
+found : (g : Over) (c : In-Some g)
     → (group : List Action) × (next_undo c.self.inside.text.history.history ≡ Some group)
 found g c =
-    let there = some_is c.last_undo.result (c.is_none.ensures ∙ ap not c.if-is_none.false) in
-    (there.0, sym c.last_undo.ensures ∙ there.1)
+    group-planned c.plan_undo.result (next_undo c.self.inside.text.history.history) c.in-Some.plan
+    c.plan_undo.ensures.none (c.in_ok-plan.was ∙ ap (λ found. Ok found) c.in-Some.is)
 
 -- what the plan knows
-knows : (g : Over) (c : In_ok-plan g) → KnowsDelta c.args.caller.now.follows (replays true (found g c).0)
+knows : (g : Over) (c : In-Some g) → KnowsDelta c.rules-rules.result.follows (replays true (found g c).0)
     (g.S.TextStore.content c.self.inside.text.store).cells
-    (g.S.TextStore.outcome c.plan_undo.new.text.store c.in_ok-plan.plan.prepared).cells c.in_ok-plan.plan.delta
+    (g.S.TextStore.outcome c.plan_undo.new.text.store c.in-Some.plan.prepared).cells c.in-Some.plan.delta
 knows g c =
-    subst (λ found. IfSome found (λ group. KnowsDelta c.args.caller.now.follows (replays true group)
+    subst (λ made. IfSome made (λ plan. KnowsDelta c.rules-rules.result.follows (replays true (found g c).0)
     (g.S.TextStore.content c.self.inside.text.store).cells
-    (g.S.TextStore.outcome c.plan_undo.new.text.store c.in_ok-plan.plan.prepared).cells c.in_ok-plan.plan.delta))
-    (found g c).1 c.in_ok-plan.ensures.delta
+    (g.S.TextStore.outcome c.plan_undo.new.text.store plan.prepared).cells plan.delta)) c.in-Some.is
+    (subst (λ found. IfSome found (λ group. IfSome c.in_ok-plan.field-0 (λ plan.
+    KnowsDelta c.rules-rules.result.follows (replays true group)
+    (g.S.TextStore.content c.self.inside.text.store).cells
+    (g.S.TextStore.outcome c.plan_undo.new.text.store plan.prepared).cells plan.delta))) (found g c).1
+    c.in_ok-plan.ensures.delta)
 
 -- what is left where the group is undone
-left : (g : Over) (c : In_ok-plan g) {state : State}
+left : (g : Over) (c : In-Some g) {state : State}
     → state ≡ undone (2 * c.number.result) (state_in (parts_of g.S.TextStore.content c.self.inside))
     → Leaves c.args.caller.now.limits.now (with_state (parts_of g.S.TextStore.content c.self.inside) state)
     c.args.self.now (Ok Empty) (edit_undo c.args.self.now (widget_at c.args.self.now c.args.caller.now.seat))
 left g c state_is =
     let is = (found g c).1 in
     leaves-undone (can g c) is (record {
-      bounds = c.in_ok-plan.ensures.bounds (ap is_some is);
+      bounds = subst AreLimits c.rules-rules.ensures.limits (c.in_ok-plan.ensures.bounds (ap is_some is));
       scalars = subst (λ found. IfSome found (λ group. AreScalars (replays true group))) is c.in_ok-plan.ensures.scalars;
     }) c.requires.formed state_is
 
 pub report-requires-clause-stand : goal.report-requires-clause-stand
 report-requires-clause-stand g c =
-    let at = (goal.at.report-requires-clause-stand g c).In_ok-plan in
+    let at = (goal.at.report-requires-clause-stand g c).In-Some in
     let old = g.S.TextStore.content c.self.inside.text.store in
-    let new = g.S.TextStore.outcome c.plan_undo.new.text.store c.in_ok-plan.plan.prepared in
-    let knows = subst (KnowsDelta c.args.caller.now.follows (replays true (found g at).0) old.cells new.cells)
+    let new = g.S.TextStore.outcome c.plan_undo.new.text.store c.in-Some.plan.prepared in
+    let knows = subst (KnowsDelta c.rules-rules.result.follows (replays true (found g at).0) old.cells new.cells)
     (sym c.take-delta.ensures.value) (knows g at) in
     subst (λ (content : Content). IfSome c.take-delta.result (λ delta.
     AreHunks 0 (length content.cells) (box_value delta).hunks.items)) (sym c.in_ok-plan.ensures.same.0)
-    (known-stand c.args.caller.now.follows (replays true (found g at).0) old.cells new.cells c.take-delta.result knows)
+    (known-stand c.rules-rules.result.follows (replays true (found g at).0) old.cells new.cells c.take-delta.result knows)
 
 -- what the plan makes of the text
 made : (g : Over) (c : After-commit g)
@@ -80,20 +89,25 @@ made : (g : Over) (c : After-commit g)
     ≡ undone (2 * c.number.result) (state_in (parts_of g.S.TextStore.content c.self.inside))
 made g c =
     let same = c.in_ok-plan.ensures.same in
-    planned-made c.in_ok-plan.plan.effects c.commit.ensures same.2 same.1 c.in_ok-plan.ensures.outcome
+    planned-made c.in-Some.plan.effects c.commit.ensures same.2 same.1
+    (subst (λ made. IfSome made (λ plan. planned plan.effects
+    (g.S.TextStore.outcome c.plan_undo.new.text.store plan.prepared) c.self.inside.text.anchors.items
+    (log_of c.self.inside.text.history)
+    ≡ undone (2 * c.number.result) (state_in (parts_of g.S.TextStore.content c.self.inside)))) c.in-Some.is
+    c.in_ok-plan.ensures.outcome)
 
 pub invariant_of-self-2 : goal.invariant_of-self-2
-invariant_of-self-2 g c = (left g (goal.at.invariant_of-self-2 g c).In_ok-plan (made g c)).sound
+invariant_of-self-2 g c = (left g (goal.at.invariant_of-self-2 g c).In-Some (made g c)).sound
 
 pub returns-clause-does : goal.returns-clause-does
-returns-clause-does g c = (left g (goal.at.returns-clause-does g c).In_ok-plan (made g c)).does
+returns-clause-does g c = (left g (goal.at.returns-clause-does g c).In-Some (made g c)).does
 
 pub returns-clause-told : goal.returns-clause-told
 returns-clause-told g c = λ follows.
-    let at = (goal.at.returns-clause-told g c).In_ok-plan in
+    let at = (goal.at.returns-clause-told g c).In-Some in
     told-planned (pairs_of (parts_of g.S.TextStore.content c.self.inside))
     c.in_ok-told.ensures c.take-delta.ensures.value (ap (λ (content : Content). content.cells) c.in_ok-plan.ensures.same.0)
-    (ap (λ (state : State). state.content.cells) c.commit.ensures) follows
+    (ap (λ (state : State). state.content.cells) c.commit.ensures) (c.rules-rules.ensures.follows ∙ follows)
     (undone-edits (can g at) (found g at).1) (knows g at) (ap (λ (d : Document). d.cells) c.self.view_is)
 
 pub returns-then-not-self : goal.returns-then-not-self
@@ -142,6 +156,22 @@ unplanned g c =
 
 pub invariant_of-self : goal.invariant_of-self
 invariant_of-self g c = (unplanned g (goal.at.invariant_of-self g c).After-plan_undo).sound
+
+pub invariant_of-self-in_default : goal.invariant_of-self-in_default
+invariant_of-self-in_default g c = (unplanned g (goal.at.invariant_of-self-in_default g c).After-plan_undo).sound
+
+pub returns-in_default : goal.returns-in_default
+returns-in_default g c =
+    let document = c.args.self.now in
+    let on = ap (λ (d : Document). d.undo) (sym c.self.view_is) ∙ c.if-not-self.false in
+    let none = ap (λ (d : Document). is_some (next_undo d.history)) (sym c.self.view_is)
+    ∙ ap is_some (c.plan_undo.ensures.none.0 (c.in_ok-plan.was ∙ ap (λ found. Ok found) c.in_default.is)) in
+    record {
+      does = does-left c.args.caller.now.limits.now document _ NothingToUndo _
+          (unplanned g (goal.at.returns-in_default g c).After-plan_undo).is
+          (λ _. undo-none document (widget_at document c.args.caller.now.seat) on none);
+      told = λ _. tt;
+    }
 
 pub returns-in_err-plan : goal.returns-in_err-plan
 returns-in_err-plan g c =

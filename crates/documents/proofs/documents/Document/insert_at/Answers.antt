@@ -1,6 +1,7 @@
-use Rattle.documents.proofs.Common.{ap, ◌∙◌, arith, map, take, sel, slot_of, inserted_texts, log_of, Ok, Empty}
-use Rattle.documents.proofs.Common.{state_of, piece_of, widget_at, parts_of, Stands, insert_at, length, key_pairs}
-use Rattle.documents.proofs.Common.{Content, State, refl, Memory, planned-made, taken-stand, told-planned}
+use Rattle.documents.proofs.Common.{ap, sym, subst, ◌∙◌, arith, map, take, sel, slot_of, inserted_texts, log_of, Ok}
+use Rattle.documents.proofs.Common.{Empty, state_of, piece_of, widget_at, parts_of, Stands, insert_at, length}
+use Rattle.documents.proofs.Common.{key_pairs, Content, State, LimitTable, refl, Memory, planned-made, taken-stand}
+use Rattle.documents.proofs.Common.{told-planned}
 use Rattle.undo_stack.specs.declared.actions.EditKind.TheVariants.{Insert}
 use Rattle.documents.proofs.ChangeLaws.{Leaves, does-left, leaves-left}
 use Rattle.documents.proofs.InsertionLaws.{leaves-put, put-left, stands-back, with_tags}
@@ -40,9 +41,11 @@ invariant_of-self g c = (unplanned g c).sound
 
 pub returns-in-Err-clause-does : goal.returns-in-Err-clause-does
 returns-in-Err-clause-does g c =
+    let widget = widget_at c.args.self.now c.args.caller.now.seat in
     (leaves-left (unplanned g c) (λ other.
-    put-left c.args.caller.now.limits.now (widget_at c.args.self.now c.args.caller.now.seat) c.args.at
-    c.args.pairs.items (stand c.self.invariant c.self.view_is) (c.in-Err.ensures.fault other))).does
+    ap (λ limits. insert_at limits c.args.self.now widget c.args.at c.args.pairs.items) (sym c.rules-rules.ensures.limits)
+    ∙ put-left c.rules-rules.result.limits.now widget c.args.at c.args.pairs.items
+    (stand c.self.invariant c.self.view_is) (c.in-Err.ensures.fault other))).does
 
 pub report-requires-clause-seated : goal.report-requires-clause-seated
 report-requires-clause-seated g c = c.self.invariant.kept.seats
@@ -68,18 +71,21 @@ pub commit-requires-clause-room : goal.commit-requires-clause-room
 commit-requires-clause-room g c = c.in-Ok.ensures.room
 
 -- what is left where the texts are inserted
-left : (g : Over) (c : After-commit g)
-    → Leaves c.args.caller.now.limits.now (with_state (with_tags c.plan_pairs-planned.new.tags
+abbrev Left : (g : Over) (c : After-commit g) → LimitTable → Type 0
+Left g c limits =
+    Leaves limits (with_state (with_tags c.plan_pairs-planned.new.tags
     (parts_of g.S.TextStore.content c.self.inside)) (state_of (g.S.TextStore.content c.commit.new.text.store)
     c.commit.new.text.anchors.items (log_of c.commit.new.text.history))) c.args.self.now (Ok Empty)
-    (insert_at c.args.caller.now.limits.now c.args.self.now (widget_at c.args.self.now c.args.caller.now.seat)
-    c.args.at c.args.pairs.items)
+    (insert_at limits c.args.self.now (widget_at c.args.self.now c.args.caller.now.seat) c.args.at c.args.pairs.items)
+
+left : (g : Over) (c : After-commit g) → Left g c c.args.caller.now.limits.now
 left g c =
     let parts = parts_of g.S.TextStore.content c.self.inside in
     let stands = stand c.self.invariant c.self.view_is in
     let slot = c.number.result in
     let plan = c.in-Ok.ensures in
-    leaves-put stands (sits c.args.caller.now.seat stands c.number.ensures.value) (record {
+    subst (Left g c) c.rules-rules.ensures.limits
+    (leaves-put stands (sits c.args.caller.now.seat stands c.number.ensures.value) (record {
       bounds = plan.bounds;
       front = plan.front;
       sound = plan.sound;
@@ -89,7 +95,8 @@ left g c =
     }) c.requires.within
     (planned-made c.in-Ok.plan.effects c.commit.ensures plan.same.2 plan.same.1 plan.outcome
     ∙ ap (λ recording. inserted_texts recording Insert c.args.at
-    (map (piece_of c.plan_pairs-planned.new.tags.tags slot) c.args.pairs.items) (state_in parts)) c.recording.ensures)
+    (map (piece_of c.plan_pairs-planned.new.tags.tags slot) c.args.pairs.items) (state_in parts))
+    c.rules-rules.ensures.recording))
 
 pub invariant_of-self-in-Ok-report : goal.invariant_of-self-in-Ok-report
 invariant_of-self-in-Ok-report g c = (left g c).sound
@@ -106,7 +113,7 @@ returns-in-Ok-report-clause-told g c = λ follows.
     told-planned (key_pairs parts.seats.entries tags.tags) c.in-Ok-report.ensures c.take-delta.ensures.value
     (ap (λ (content : Content). content.cells) plan.same.0)
     (ap (λ (state : State). state.content.cells) c.commit.ensures)
-    follows (insertion-edits c.args.caller.now.limits.now document (widget_at document c.args.caller.now.seat) c.args.at
+    (c.rules-rules.ensures.follows ∙ follows) (insertion-edits c.args.caller.now.limits.now document (widget_at document c.args.caller.now.seat) c.args.at
     c.args.pairs.items tags c.number.result (left g c).does) plan.delta
     (keyed-before (stand c.self.invariant c.self.view_is) plan.sound plan.front)
 

@@ -1,6 +1,7 @@
-use Rattle.documents.proofs.Common.{◌+◌, ◌-◌, ◌*◌, ap, ◌∙◌, arith, map, take, sel, slot_of, log_of, Ok, Empty, state_of}
-use Rattle.documents.proofs.Common.{piece_of, widget_at, parts_of, Stands, length, Content, State, key_pairs}
-use Rattle.documents.proofs.Common.{insertion_offset, refl, Memory, planned-made, taken-stand, told-planned}
+use Rattle.documents.proofs.Common.{◌+◌, ◌-◌, ◌*◌, ap, sym, subst, LimitTable, ◌∙◌, arith, map, take, sel, slot_of}
+use Rattle.documents.proofs.Common.{log_of, Ok, Empty, state_of, piece_of, widget_at, parts_of, Stands, length, Content}
+use Rattle.documents.proofs.Common.{State, key_pairs, insertion_offset, refl, Memory, planned-made, taken-stand}
+use Rattle.documents.proofs.Common.{told-planned}
 use Rattle.edit_ops.specs.Removals.{replaced}
 use Rattle.documents.proofs.ChangeLaws.{Leaves, does-left, leaves-left}
 use Rattle.documents.proofs.InsertionLaws.{stands-back, with_tags}
@@ -86,8 +87,12 @@ invariant_of-self g c = (unplanned g c).sound
 pub returns-in-Err-clause-does : goal.returns-in-Err-clause-does
 returns-in-Err-clause-does g c =
     let sight = seen g (goal.at.returns-in-Err-clause-does g c).After-end_of-last in
-    (leaves-left (unplanned g c) (λ other. replace-left c.args.caller.now.limits.now c.args.from c.args.to
-    c.args.pairs.items sight c.requires.active (c.in-Err.ensures.fault other))).does
+    let widget = widget_at c.args.self.now c.args.caller.now.seat in
+    (leaves-left (unplanned g c) (λ other.
+    ap (λ limits. replaced_at limits c.args.self.now widget c.args.from c.args.to c.args.pairs.items)
+    (sym c.rules-rules.ensures.limits)
+    ∙ replace-left c.rules-rules.result.limits.now c.args.from c.args.to c.args.pairs.items sight c.requires.active
+    (c.in-Err.ensures.fault other))).does
 
 pub report-requires-clause-seated : goal.report-requires-clause-seated
 report-requires-clause-seated g c = c.self.invariant.kept.seats
@@ -113,17 +118,20 @@ pub commit-requires-clause-room : goal.commit-requires-clause-room
 commit-requires-clause-room g c = c.in-Ok.ensures.room
 
 -- what is left where the texts are in place
-left : (g : Over) (c : After-commit g)
-    → Leaves c.args.caller.now.limits.now (with_state (with_tags c.plan_replacement-planned.new.tags
+abbrev Left : (g : Over) (c : After-commit g) → LimitTable → Type 0
+Left g c limits =
+    Leaves limits (with_state (with_tags c.plan_replacement-planned.new.tags
     (parts_of g.S.TextStore.content c.self.inside)) (state_of (g.S.TextStore.content c.commit.new.text.store)
     c.commit.new.text.anchors.items (log_of c.commit.new.text.history))) c.args.self.now (Ok Empty)
-    (replaced_at c.args.caller.now.limits.now c.args.self.now (widget_at c.args.self.now c.args.caller.now.seat)
-    c.args.from c.args.to c.args.pairs.items)
+    (replaced_at limits c.args.self.now (widget_at c.args.self.now c.args.caller.now.seat) c.args.from c.args.to
+    c.args.pairs.items)
+
+left : (g : Over) (c : After-commit g) → Left g c c.args.caller.now.limits.now
 left g c =
     let start = c.start_of-start.result in
     let slot = c.number-slot.result in
     let plan = c.in-Ok.ensures in
-    leaves-replaced c.args.from c.args.to
+    subst (Left g c) c.rules-rules.ensures.limits (leaves-replaced c.args.from c.args.to
     (seen g (goal.at.returns-in-Ok-report-clause-does g c).After-end_of-last) c.requires.active c.requires.ordered
     (record {
       bounds = plan.bounds;
@@ -136,7 +144,7 @@ left g c =
     (planned-made c.in-Ok.plan.effects c.commit.ensures plan.same.2 plan.same.1 plan.outcome
     ∙ ap (λ recording. replaced recording (2 * slot) (c.end_of-last.result - 1) (start + c.args.from)
     (start + c.args.to) (map (piece_of c.plan_replacement-planned.new.tags.tags slot) c.args.pairs.items)
-    (state_in (parts_of g.S.TextStore.content c.self.inside))) c.recording.ensures)
+    (state_in (parts_of g.S.TextStore.content c.self.inside))) c.rules-rules.ensures.recording))
 
 pub invariant_of-self-in-Ok-report : goal.invariant_of-self-in-Ok-report
 invariant_of-self-in-Ok-report g c = (left g c).sound
@@ -156,7 +164,7 @@ returns-in-Ok-report-clause-told g c = λ follows.
     told-planned (key_pairs parts.seats.entries tags.tags) c.in-Ok-report.ensures c.take-delta.ensures.value
     (ap (λ (content : Content). content.cells) plan.same.0)
     (ap (λ (state : State). state.content.cells) c.commit.ensures)
-    follows (replacement-edits c.args.caller.now.limits.now document widget
+    (c.rules-rules.ensures.follows ∙ follows) (replacement-edits c.args.caller.now.limits.now document widget
     (insertion_offset document widget c.args.from) (insertion_offset document widget c.args.to) c.args.pairs.items tags
     c.number-slot.result parts.content.cells (characters-kept parts document c.self.view_is)
     (cut-at c.args.from sight shows) (cut-at c.args.to sight shows) (left g c).does) plan.delta
