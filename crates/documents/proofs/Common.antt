@@ -11,7 +11,7 @@ pub use Rattle.command_effects.proofs.MadeLaws.{absent_slot, among_slot, found_t
 pub use Rattle.command_effects.proofs.PairLaws.{spans_of-fit}
 pub use Rattle.command_effects.proofs.WrittenLaws.{filter-append, filter-in, filter-out, take-found}
 pub use Rattle.command_effects.specs.Edits.{excess, length_replaced, new_mark, with_own_marks, without_widget}
-pub use Rattle.command_effects.specs.Faults.{at_position, edit_fault, index_fault}
+pub use Rattle.command_effects.specs.Faults.{at_position, edit_fault, index_fault, with_value}
 pub use Rattle.command_effects.specs.Lists.{Pair, all_names, listed_names, total, with_name, with_names}
 pub use Rattle.command_effects.specs.Marking.{IsMadeMark, is_left, marks_left, numbers_named, taken}
 pub use Rattle.command_effects.specs.Ranges.{spans_of}
@@ -36,6 +36,7 @@ pub use Rattle.documents.specs.Edits.{with_text, with_texts, without_cells, with
 pub use Rattle.documents.specs.History.{action_again, action_back, edit_redo, edit_reset, edit_separator, edit_undo}
 pub use Rattle.documents.specs.History.{group_again, group_back, modified_set, redo_found, redone, text_back}
 pub use Rattle.documents.specs.History.{undo_found, undone, with_end}
+pub use Rattle.documents.specs.Indices.{place_at}
 pub use Rattle.documents.specs.Inside.{parts_of}
 pub use Rattle.documents.specs.Kept.{AreMarked, HasOwnMarks, IsMarked, IsOrderly, IsSeated, IsSound, Stands}
 pub use Rattle.documents.specs.Kept.{is_window_name}
@@ -53,7 +54,8 @@ pub use Rattle.documents.specs.Promise.{Change, Does, Gives, answered, change_wi
 pub use Rattle.documents.specs.Ranges.{spans_shown}
 pub use Rattle.documents.specs.Seats.{IsLonger}
 pub use Rattle.documents.specs.Tags.{add_spans, known_or, remove_spans, reordered, tag_delete, tags_on}
-pub use Rattle.documents.specs.Texts.{insert_at, insertion_offset, joined_text, keyed_text, tags_with, within_limits}
+pub use Rattle.documents.specs.Texts.{insert_at, insertion_at, insertion_offset, joined_text, keyed_text, tags_with}
+pub use Rattle.documents.specs.Texts.{within_limits}
 pub use Rattle.documents.specs.Told.{Foretells, reply_of}
 pub use Rattle.documents.specs.Views.{is_idle, part_between, shown, shown_flags, view_end, view_start}
 pub use Rattle.documents.specs.WellFormed.{HasItsKeys, IsPlaced, IsWellFormedDocument, belongs, window_names}

@@ -3,10 +3,9 @@ use Rattle.documents.proofs.Common.{◌≡◌, ℕ, zero, suc, ◌-◌, ◌≤�
 use Rattle.documents.proofs.Common.{slice_get, slice_index_or, length-map, option_and_then_some, AreWithin, own_place}
 use Rattle.documents.proofs.Common.{shared_place, is_word, at_position, index_fault, Document, Widget, SharedMark}
 use Rattle.documents.proofs.Common.{KeyedCell, characters, key_of, mark_place, meanings, place_of, shown, view_end}
-use Rattle.documents.proofs.Common.{view_start}
+use Rattle.documents.proofs.Common.{view_start, place_at}
 use Rattle.index_grammar.specs.Grammar.{index_of}
 use Rattle.text_index.proofs.BoundLaws.{own-within, shared-within, value_of-le}
-use Rattle.documents.specs.Indices.{place_at}
 use Rattle.documents.proofs.ViewLaws.{part-length}
 use Rattle.std.specs.FinSet as set
 

@@ -12,6 +12,7 @@ pub mod FindLaws
 pub mod FirstLaws
 pub mod IndexPlaceLaws
 pub mod InsertionLaws
+pub mod InsertionPlaceLaws
 pub mod JournalLaws
 pub mod LeadLaws
 pub mod ListedLaws

@@ -1,15 +1,18 @@
 -- Commands on texts: `insert` and `get`.
-use Rattle.std.specs.Prelude.{ℕ, ◌+◌, ◌-◌, min, nat_lt, List, [], ◌∷◌, length, map, flat_map, option_map}
-use Rattle.std.specs.Prelude.{if◌then◌else◌}
+use Rattle.std.specs.Prelude.{ℕ, ◌+◌, ◌-◌, min, nat_lt, List, [], ◌∷◌, length, map, flat_map, Option, None, Some}
+use Rattle.std.specs.Prelude.{option_map, Result, Ok, if◌then◌else◌}
 use Rattle.text_model.specs.LimitTable.{LimitTable}
 use Rattle.undo_stack.specs.declared.actions.EditKind.TheVariants as kind
 use Rattle.edit_ops.specs.Told.{insertion}
+use Rattle.command_effects.specs.declared.answers.Fault.{Fault}
 use Rattle.command_effects.specs.declared.answers.Fault.TheVariants.{TooManyTags, TextTooLong}
+use Rattle.command_effects.specs.Faults.{with_value}
 use Rattle.documents.specs.Edits.{KeyedText, with_texts}
 use Rattle.reports.specs.Keys.{keys_named}
 use Rattle.command_effects.specs.Lists.{Pair, all_names, total, with_names}
+use Rattle.documents.specs.Indices.{place_at}
 use Rattle.documents.specs.Promise.{Change, refused, edited}
-use Rattle.documents.specs.Views.{view_start, shown}
+use Rattle.documents.specs.Views.{is_idle, view_start, shown}
 use Rattle.documents.specs.Documents.{Document, Widget}
 
 -- a text with the keys of its tag list, of which `sel` is the acting widget's
@@ -42,3 +45,9 @@ insert_at limits document widget at pairs =
 -- before a place of the view, or at its end just before its last newline
 abbrev pub insertion_offset : Document → Widget → ℕ → ℕ
 insertion_offset document widget place = view_start widget + min place (length (shown document widget) - 1)
+
+-- that of the index at a position of the command, or the fault there; none where the widget leaves the text as it is
+abbrev pub insertion_at : Document → Widget → ℕ → List ℕ → Result (Option ℕ) Fault
+insertion_at document widget position word =
+    with_value (place_at document widget position word) (λ place.
+    Ok (if is_idle document widget then None else Some (insertion_offset document widget place)))

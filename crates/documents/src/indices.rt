@@ -17,7 +17,7 @@ use text_index::{IndexFault, Names, locate, push_index};
 use text_model::{TagSlot, Text, TextStore};
 
 /// A place, or the fault of the index at a position of a command.
-fn at_position(position: usize, found: Result<usize, IndexFault>) -> Result<usize, Fault>
+pub fn at_position(position: usize, found: Result<usize, IndexFault>) -> Result<usize, Fault>
     ensures value { result ≡ at_position position found }
     ensures within { (end : ℕ) → IfOk found (λ place. place ≤ end) → IfOk result (λ place. place ≤ end) }
 {

@@ -1,18 +1,21 @@
 //! Reads the text of a widget's view, and inserts texts with tag lists.
 
-ghost use Rattle.std.specs.Prelude.{◌≡◌, ◌<◌, ◌≤◌, ◌-◌, false, suc, min, length, slice_range, IfOk};
+ghost use Rattle.std.specs.Prelude.{◌≡◌, ◌<◌, ◌≤◌, suc, length, chars, slice_range, IfOk, IfSome};
 ghost use Rattle.documents.specs.Documents.{widget_at};
-ghost use Rattle.documents.specs.Promise.{Does};
-ghost use Rattle.documents.specs.Texts.{insert_at, insertion_offset};
+ghost use Rattle.documents.specs.Promise.{Does, Gives};
+ghost use Rattle.documents.specs.Texts.{insert_at, insertion_at};
 ghost use Rattle.documents.specs.Told.{reply_of, IsTold};
-ghost use Rattle.documents.specs.Views.{is_idle, shown};
+ghost use Rattle.documents.specs.Views.{shown};
 
 use crate::callers::Caller;
 use crate::documents::Document;
+use crate::indices::at_position;
+use crate::views::view_of;
 use command_effects::{Fault, Pair, plan_pairs};
 use edit_ops::commit;
 use reports::{EditTold, report};
 use std::alloc::AllocError;
+use text_index::{Names, locate};
 use text_model::{TagSlot, Text, TextStore};
 
 impl<S: TextStore> Document<S> {
@@ -38,16 +41,31 @@ impl<S: TextStore> Document<S> {
         Ok(Text::new(view.copy_text(place, (place + 1).min(view.len()))?))
     }
 
-    /// The offset at which a text is inserted for a place: before the last newline where that is the end.
-    pub fn insertion_offset(&self, seat: usize, place: usize) -> usize
+    /// Returns the offset at which a text is inserted for the index at a position of a command: before the last newline
+    /// where the index is the end of the view. Returns `None` where the widget leaves the text as it is.
+    pub fn insertion_at(
+        &self,
+        seat: usize,
+        position: usize,
+        word: &str,
+    ) -> Result<Option<usize>, Fault>
         requires shown { seat < length self.now.widgets }
-        requires active { is_idle self.now (widget_at self.now seat) ≡ false }
-        requires near { place ≤ length (shown self.now (widget_at self.now seat)) }
-        ensures value { result ≡ insertion_offset self.now (widget_at self.now seat) place }
-        ensures within { result < length self.now.cells }
+        ensures value { Gives result
+            (insertion_at self.now (widget_at self.now seat) position (chars word.now)) }
+        ensures within { IfOk result (λ found. IfSome found (λ at. at < length self.now.cells)) }
     {
-        let view = self.view_at(seat);
-        (view.start + place).min(view.end - 1)
+        let slot = self.seats.number(seat);
+        let names = Names {
+            tags: &self.tags,
+            marks: &self.marks,
+            widget: TagSlot(slot),
+        };
+        let view = view_of(&self.text.store, &self.text.anchors, slot);
+        let place = at_position(position, locate(self.alloc, word, &names, &view))?;
+        if self.disabled[slot as usize] || view.start == view.end {
+            return Ok(None);
+        }
+        Ok(Some((view.start + place).min(view.end - 1)))
     }
 
     /// Inserts texts at an offset, each after the one before it, and makes the tags of their lists. Returns what that

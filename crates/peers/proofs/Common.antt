@@ -59,7 +59,8 @@ pub use Rattle.documents.specs.MarksTold.{own_keys, watched}
 pub use Rattle.documents.specs.Options.{AreLines, IsLine, settings_of, with_settings}
 pub use Rattle.documents.specs.Promise.{Change, Does, Gives, answered, change_with, refused, unless_idle}
 pub use Rattle.documents.specs.Tags.{add_spans, known_or, lowered, raised, remove_spans, reordered}
-pub use Rattle.documents.specs.Texts.{insert_at, insertion_offset, joined_text, tags_with, within_limits}
+pub use Rattle.documents.specs.Texts.{insert_at, insertion_at, insertion_offset, joined_text, tags_with, within_limits}
+pub use Rattle.documents.specs.Told.{IsTold, reply_of}
 pub use Rattle.documents.specs.Views.{is_idle, shown, view_end}
 pub use Rattle.documents.specs.WellFormed.{IsPlaced, IsWellFormedDocument, window_names}
 pub use Rattle.documents.specs.Widgets.{ShowsOpenly, bare_document, is_kept, keeps_some, new_document, new_widget}

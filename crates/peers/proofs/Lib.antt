@@ -7,6 +7,7 @@ pub mod FrontLaws
 pub mod GotLaws
 pub mod HomeLaws
 pub mod HomeStepLaws
+pub mod InsertLaws
 pub mod KeepingLaws
 pub mod MakesLaws
 pub mod MarksToldLaws

@@ -3,8 +3,7 @@
 use Rattle.peers.proofs.Common.{◌≡◌, ◌≢◌, ℕ, Bool, true, false, List, [], Ok, Err, refl, sym, ap, ◌∙◌, subst, IfOk}
 use Rattle.peers.proofs.Common.{Result, true≢false, LimitTable, Command, Delete, EditRedo, EditUndo, Insert, Replace}
 use Rattle.peers.proofs.Common.{TagAdd, TagDelete, TagRemove, Answer, Fault, Memory, Document, Widget, Change, Does}
-use Rattle.peers.proofs.Common.{done, answer_of, no_edit, is_told, AreTold, edited, Told, TellsCells}
-use Rattle.documents.specs.Told.{IsTold, reply_of}
+use Rattle.peers.proofs.Common.{done, answer_of, no_edit, is_told, AreTold, edited, Told, TellsCells, IsTold, reply_of}
 use Rattle.reports.specs.declared.told.EditTold.{EditTold}
 use Rattle.peers.specs.Told.{answered}
 use Rattle.documents.proofs.StillCellLaws.{HasCellsOf, cells-marked, cells-quiet}

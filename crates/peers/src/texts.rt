@@ -33,14 +33,12 @@ pub fn insert<S: TextStore>(
         (words_of request.now)) document.old document.new result }
 {
     let (index, words) = request.one_or_more()?;
-    let seat = request.caller.seat;
-    let place = document.place_at(seat, request.position, index)?;
+    let at = document.insertion_at(request.caller.seat, request.position, index)?;
     let pairs = pairs_at(document.allocator(), request.position + 1, words)?;
-    if document.is_idle(seat) {
-        return Ok(EditTold::nothing(document.allocator()));
+    match at {
+        Some(offset) => document.insert_at(&request.caller, offset, pairs),
+        None => Ok(EditTold::nothing(document.allocator())),
     }
-    let offset = document.insertion_offset(seat, place);
-    document.insert_at(&request.caller, offset, pairs)
 }
 
 /// The texts of ranges as a list, without those that are empty.
