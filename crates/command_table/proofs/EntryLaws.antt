@@ -1,9 +1,10 @@
--- How a run of switches goes on, and when words are too many to begin a subcommand.
+-- The words after a subcommand, how a run of switches goes on, and when words are too many to begin a subcommand.
 use Rattle.command_table.proofs.Common.{◌≡◌, ℕ, ◌+◌, ◌<◌, Bool, true, false, ◌&&◌, List, [], ◌∷◌, ◌++◌, length, take}
 use Rattle.command_table.proofs.Common.{drop, get_or, refl, sym, ap, ◌∙◌, arith, append_assoc, add-one, Err, String}
 use Rattle.command_table.proofs.Common.{chars, string_bytes, if◌then◌else◌, length-map, drop_more, get_or-map, go_on}
 use Rattle.command_table.proofs.Common.{unknown, Word, texts_of, is_same, is_dashed, SwitchRule, begins, ends_switches}
-use Rattle.command_table.proofs.Common.{dashed_words}
+use Rattle.command_table.proofs.Common.{dashed_words, ◌-◌, ap₂, Some, take_rest, drop-map, spelled, entry_rule, behind}
+use Rattle.command_table.proofs.Common.{found, Entry}
 use Rattle.std.proofs.Math.Seq.{take-suc}
 use Rattle.command_table.specs.declared.shapes.ShapeFault.TheVariants.{BadOption, WrongArguments}
 
@@ -81,3 +82,23 @@ unknown-short [] short none =
 unknown-short (word ∷ []) short none =
     ap (λ b. if b then Err WrongArguments else (if b then Err (BadOption 2) else Err (BadOption 1))) none
 unknown-short (word ∷ next ∷ words) short none = absurd (omega (arith, short))
+
+-- the words from one on, as a slice of them has them
+pub rest_from : {Z : Type 0} (words : List (String Z)) (i : ℕ) →
+    texts_of (take (length words - i) (drop i words)) ≡ drop i (texts_of words)
+rest_from words i = ap texts_of (take_rest words i) ∙ sym (drop-map (λ word. text word) i words)
+
+pub first_and_rest : {Z : Type 0} (words : List (String Z)) (first : String Z) (bytes : List ℕ) → 0 < length words →
+    first ≡ get_or words 0 first → bytes ≡ string_bytes first
+    → chars bytes ∷ texts_of (take (length words - 1) (drop 1 words)) ≡ texts_of words
+first_and_rest words first bytes some is same =
+    ap₂ (λ b rest. chars b ∷ texts_of rest) same (take_rest words 1) ∙ sym (rest_at words 0 first some is)
+
+-- what the entry that was found says of the words after its subcommand
+pub found-behind : {Z : Type 0} (entry : Entry) (words : List (String Z)) (count : ℕ) →
+    count ≡ length (spelled entry.spelling)
+    → behind (entry_rule entry) (1 + count) (texts_of (take (length words - count) (drop count words)))
+    ≡ found (texts_of words) (Some (entry_rule entry))
+found-behind entry words count is =
+    ap (behind (entry_rule entry) (1 + count)) (rest_from words count)
+    ∙ ap (λ n. behind (entry_rule entry) (1 + n) (drop n (texts_of words))) is

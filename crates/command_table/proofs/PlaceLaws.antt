@@ -3,23 +3,24 @@ use Rattle.command_table.proofs.Common.{◌≡◌, ℕ, ◌<◌, ◌≤◌, ◌+
 use Rattle.command_table.proofs.Common.{drop, get_or, refl, sym, ap, ◌∙◌, subst, arith, cond, Option, Some, None}
 use Rattle.command_table.proofs.Common.{IfSome, String, string_bytes, chars, false≢true, length-map, get_or-map, Word}
 use Rattle.command_table.proofs.Common.{texts_of, EntryRule, begins, entry_rule, spelled, IsPlaceOf, table, text_entry}
-use Rattle.command_table.proofs.Common.{find_in, map}
-use Rattle.command_table.specs.declared.entries.Entry.{Entry}
+use Rattle.command_table.proofs.Common.{find_in, map, HasBytesAt, text_from_reads, Entry}
 use Rattle.command_table.proofs.EntryLaws.{rest_at}
 
--- a word that is one that the table knows
-pub by_name : (front : List Word) (place : ℕ) (word name : Word) → word ≡ name →
-    ((rest : List Word) → IsPlaceOf place (front ++ name ∷ rest))
-    → (rest : List Word) → IsPlaceOf place (front ++ word ∷ rest)
-by_name front place word name is known =
-    subst (λ w. (rest : List Word) → IsPlaceOf place (front ++ w ∷ rest)) (sym is) known
+-- a word of which each byte is that of a word of the table
+pub by_bytes : (front : List Word) (place : ℕ) (word name : List ℕ) → length word ≡ length name → HasBytesAt word 0 name
+    → ((rest : List Word) → IsPlaceOf place (front ++ chars name ∷ rest))
+    → (rest : List Word) → IsPlaceOf place (front ++ chars word ∷ rest)
+by_bytes front place word name long reads =
+    subst (λ w. (rest : List Word) → IsPlaceOf place (front ++ chars w ∷ rest))
+    (sym (text_from_reads word name long reads))
 
 -- the first word is that of a family
-pub by_family : (found : Option ℕ) (family name word : Word) → family ≡ name
-    → IfSome found (λ place. (rest : List Word) → IsPlaceOf place (name ∷ word ∷ rest))
-    → IfSome found (λ place. (rest : List Word) → IsPlaceOf place (family ∷ word ∷ rest))
-by_family found family name word is =
-    subst (λ w. IfSome found (λ place. (rest : List Word) → IsPlaceOf place (w ∷ word ∷ rest))) (sym is)
+pub by_family : (found : Option ℕ) (family name word : List ℕ) → length family ≡ length name → HasBytesAt family 0 name
+    → IfSome found (λ place. (rest : List Word) → IsPlaceOf place (chars name ∷ chars word ∷ rest))
+    → IfSome found (λ place. (rest : List Word) → IsPlaceOf place (chars family ∷ chars word ∷ rest))
+by_family found family name word long reads =
+    subst (λ w. IfSome found (λ place. (rest : List Word) → IsPlaceOf place (chars w ∷ chars word ∷ rest)))
+    (sym (text_from_reads family name long reads))
 
 -- by the first of the words
 pub by_first : {Z : Type 0} (found : Option ℕ) (words : List (String Z)) (first : String Z) (word : List ℕ) →
@@ -32,18 +33,24 @@ by_first (Some place) words first word some is same known =
     ∙ ap (λ b. chars b ∷ texts_of (drop (0 + 1) words)) (sym same))) (known (texts_of (drop (0 + 1) words)))
 
 -- by the first two
-pub by_second : {Z : Type 0} (found : Option ℕ) (place : ℕ) (words : List (String Z)) (first second : String Z)
+pub by_second : {Z : Type 0} (found : Option ℕ) (words : List (String Z)) (first second : String Z)
     (one two : List ℕ) → 1 < length words → first ≡ get_or words 0 first → second ≡ get_or words 1 second
-    → one ≡ string_bytes first → two ≡ string_bytes second → found ≡ Some place
-    → IfSome found (λ at. (rest : List Word) → IsPlaceOf at (chars one ∷ chars two ∷ rest))
-    → IsPlaceOf place (texts_of words)
-by_second found place words first second one two some is next same other found_is all =
+    → one ≡ string_bytes first → two ≡ string_bytes second
+    → IfSome found (λ place. (rest : List Word) → IsPlaceOf place (chars one ∷ chars two ∷ rest))
+    → IfSome found (λ place. IsPlaceOf place (texts_of words))
+by_second None words first second one two some is next same other known = known
+by_second (Some place) words first second one two some is next same other known =
     let rest = texts_of (drop (1 + 1) words) in
-    let known : (rest : List Word) → IsPlaceOf place (chars one ∷ chars two ∷ rest) =
-    subst (λ o. IfSome o (λ at. (rest : List Word) → IsPlaceOf at (chars one ∷ chars two ∷ rest))) found_is all in
     subst (IsPlaceOf place) (sym (rest_at words 0 first (omega arith) is
     ∙ ap (λ b. chars b ∷ texts_of (drop (0 + 1) words)) (sym same)
     ∙ ap (λ ws. chars one ∷ ws) (rest_at words 1 second some next ∙ ap (λ b. chars b ∷ rest) (sym other)))) (known rest)
+
+-- a place by the first word alone, whatever the second is
+pub whatever_next : (found : Option ℕ) (first second : Word) →
+    IfSome found (λ place. (rest : List Word) → IsPlaceOf place (first ∷ rest))
+    → IfSome found (λ place. (rest : List Word) → IsPlaceOf place (first ∷ second ∷ rest))
+whatever_next None first second known = known
+whatever_next (Some place) first second known = λ rest. known (second ∷ rest)
 
 -- the entry at the place
 pub entry_at : (entries : List Entry) (words : List Word) (place : ℕ) (entry : Entry) → map entry_rule entries ≡ table →

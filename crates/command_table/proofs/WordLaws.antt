@@ -3,8 +3,7 @@ use Rattle.command_table.proofs.Common.{◌≡◌, ℕ, ◌<◌, ◌≤◌, Bool
 use Rattle.command_table.proofs.Common.{refl, sym, ap, ◌∙◌, arith, chars, bytes_eq, IsUtf8, encode_utf8}
 use Rattle.command_table.proofs.Common.{encode_utf8_all, ◌==◌, nat_eq, starts_with, false≢true, same_from_decides}
 use Rattle.command_table.proofs.Common.{Decides-eqb, chars-append, encodes-append, encodes-chars, encode_ascii}
-use Rattle.command_table.proofs.Common.{char_from_byte, is_character, is_dashed}
-use Rattle.std.proofs.lemmas.Slice.Eq.{bytes_eq-Decides, starts_is}
+use Rattle.command_table.proofs.Common.{char_from_byte, is_character, is_dashed, ◌≢◌, bytes_eq-Decides, starts_is}
 
 pub bytes_eq-chars : (a b : List ℕ) → IsUtf8 a → IsUtf8 b → bytes_eq a b ≡ bytes_eq (chars a) (chars b)
 bytes_eq-chars a b text other =
@@ -20,6 +19,15 @@ same_tests true true to from = refl
 same_tests true false to from = sym (to refl)
 same_tests false true to from = from refl
 same_tests false false to from = refl
+
+-- words of other lengths are other words
+pub longer-chars : (a b : List ℕ) → IsUtf8 a → IsUtf8 b → length a ≢ length b →
+    (length a == length b) ≡ bytes_eq (chars a) (chars b)
+longer-chars a b text other longer =
+    same_tests (length a == length b) (bytes_eq a b)
+    (λ passes. absurd (longer ((Decides-eqb (length a) (length b)).0 passes)))
+    (λ passes. (Decides-eqb (length a) (length b)).1 (ap length ((bytes_eq-Decides a b).0 passes)))
+    ∙ bytes_eq-chars a b text other
 
 pub starts_with-chars : (text front : List ℕ) → IsUtf8 text → IsUtf8 front →
     starts_with nat_eq text front ≡ starts_with is_character (chars text) (chars front)

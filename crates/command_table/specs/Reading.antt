@@ -23,6 +23,11 @@ shape_in entry switches arguments count = record {
   count = before_options entry.options count;
 }
 
+-- how many arguments there are is decided last
+abbrev pub decided_by_count : EntryRule → ℕ → ℕ → ℕ → Result Shape ShapeFault
+decided_by_count entry switches arguments count =
+    if fits entry count then Ok (shape_in entry switches arguments count) else Err WrongArguments
+
 -- Behind the subcommand, from a position on, stand these switches and then these arguments: first the switches are
 -- decided, then the options, then how many words there are.
 abbrev pub decided : EntryRule → ℕ → List Word → List Word → Result Shape ShapeFault
@@ -30,8 +35,7 @@ decided entry position switches arguments =
     let from = position + length switches in
     bad_or (bad_switch entry.switches position switches)
     (bad_or (bad_option entry.options from arguments)
-    (if fits entry (length arguments) then Ok (shape_in entry position from (length arguments))
-    else Err WrongArguments))
+    (decided_by_count entry position from (length arguments)))
 
 -- the words behind the subcommand, from a position on
 abbrev pub behind : EntryRule → ℕ → List Word → Result Shape ShapeFault

@@ -3,7 +3,7 @@
 ghost use Rattle.std.specs.Prelude.{◌≡◌, ◌≤◌, ◌+◌, List, ◌∷◌, chars, length, take, map, true, option_map, IfSome, IfOk};
 ghost use Rattle.command_table.specs.Words.{texts_of, literal, Word};
 ghost use Rattle.command_table.specs.Entries.{switch_words, bad_switch, bad_option, fits, before_options};
-ghost use Rattle.command_table.specs.Reading.{decided, behind, go_on};
+ghost use Rattle.command_table.specs.Reading.{decided, decided_by_count, behind, go_on};
 ghost use Rattle.command_table.specs.Table.{destroy_entry, table, text_entry, find_in, IsPlaceOf};
 ghost use Rattle.command_table.specs.Spelled.{spelled, entry_rule};
 
@@ -27,7 +27,7 @@ pub struct Entry {
 }
 
 /// `text W ?option value ..?`.
-const TEXT: Entry = Entry {
+static TEXT: Entry = Entry {
     spelling: Spelling::First,
     command: Command::Text,
     switches: None,
@@ -54,7 +54,7 @@ macro_rules! plain {
 }
 
 /// `destroy ?W ..?`.
-const DESTROY: Entry = plain!(Spelling::First, Destroy, 0, None);
+static DESTROY: Entry = plain!(Spelling::First, Destroy, 0, None);
 
 /// The subcommands of a widget.
 static ENTRIES: [Entry; 33] = [
@@ -250,6 +250,29 @@ impl Entry {
         }
     }
 
+    /// The shape of a command without a bad switch or option, by its number of arguments. Its switches begin at the
+    /// position `switches`, and its arguments at `arguments`.
+    fn decide_count(
+        &self,
+        switches: usize,
+        arguments: usize,
+        count: usize,
+    ) -> Result<Shape, ShapeFault>
+        ensures value { result ≡ decided_by_count (entry_rule self.now) switches arguments count }
+        ensures within { IfOk result (λ shape. shape.arguments + shape.count ≤ arguments + count) }
+        ensures ordered { switches ≤ arguments → IfOk result (λ shape. shape.switches ≤ shape.arguments) }
+    {
+        if !self.fits(count) {
+            return Err(ShapeFault::WrongArguments);
+        }
+        Ok(Shape {
+            command: self.command,
+            switches,
+            arguments,
+            count: self.before_options(count),
+        })
+    }
+
     /// What switches and arguments are that stand behind the subcommand from a position on.
     fn decide(
         &self,
@@ -271,26 +294,24 @@ impl Entry {
         if let Some(bad) = self.first_bad_option(from, arguments) {
             return Err(ShapeFault::BadOption(bad));
         }
-        if !self.fits(arguments.len()) {
-            return Err(ShapeFault::WrongArguments);
-        }
-        Ok(Shape {
-            command: self.command,
-            switches: position,
-            arguments: from,
-            count: self.before_options(arguments.len()),
-        })
+        self.decide_count(position, from, arguments.len())
     }
 
-    /// What the words behind the subcommand are. They stand from a position on.
+    /// What the words after the subcommand are. They begin at a position. Where neither switches nor options are taken,
+    /// only the number of words counts.
     pub fn read(&self, position: usize, words: &[String]) -> Result<Shape, ShapeFault>
         requires { position + length words.now ≤ usize.MAX }
         ensures value { result ≡ behind (entry_rule self.now) position (texts_of words.now) }
         ensures within { IfOk result (λ shape. shape.arguments + shape.count ≤ position + length words.now) }
         ensures ordered { IfOk result (λ shape. shape.switches ≤ shape.arguments) }
     {
-        let count = self.count_switches(words);
-        self.decide(position, &words[..count], &words[count..])
+        match (self.switches, self.options) {
+            (None, None) => self.decide_count(position, position, words.len()),
+            _ => {
+                let count = self.count_switches(words);
+                self.decide(position, &words[..count], &words[count..])
+            }
+        }
     }
 }
 
@@ -302,128 +323,109 @@ fn entries() -> &'static [Entry]
 }
 
 /// The entry of `text`, which is that of the definition.
-pub fn text_entry() -> Entry
-    ensures { entry_rule result ≡ text_entry }
+pub fn text_entry() -> &'static Entry
+    ensures { entry_rule result.now ≡ text_entry }
 {
-    TEXT
+    &TEXT
 }
 
 /// The entry of `destroy`, which is that of the definition.
-pub fn destroy_entry() -> Entry
-    ensures { entry_rule result ≡ destroy_entry }
+pub fn destroy_entry() -> &'static Entry
+    ensures { entry_rule result.now ≡ destroy_entry }
 {
-    DESTROY
+    &DESTROY
 }
 
-/// The place of the entry of a subcommand of one word, with arguments alone.
-fn place_plain(word: &str) -> Option<usize>
+/// The place of the entry of a subcommand of one word. Here and below a word is matched as bytes, which takes a
+/// comparison a byte; matched as `&str`, it would take a call for each word that it is compared with.
+fn place_alone(word: &[u8]) -> Option<usize>
     ensures { IfSome result (λ place. (rest : List Word) → IsPlaceOf place (chars word.now ∷ rest)) }
 {
     match word {
-        "insert" => Some(0),
-        "delete" => Some(1),
-        "replace" => Some(2),
-        "get" => Some(3),
-        "index" => Some(4),
-        "compare" => Some(5),
+        b"insert" => Some(0),
+        b"delete" => Some(1),
+        b"replace" => Some(2),
+        b"get" => Some(3),
+        b"index" => Some(4),
+        b"compare" => Some(5),
+        b"configure" => Some(26),
+        b"cget" => Some(27),
+        b"search" => Some(28),
+        b"count" => Some(29),
+        b"dump" => Some(30),
         _ => None,
-    }
-}
-
-/// The place of the entry of a subcommand of one word, with switches or options.
-fn place_optioned(word: &str) -> Option<usize>
-    ensures { IfSome result (λ place. (rest : List Word) → IsPlaceOf place (chars word.now ∷ rest)) }
-{
-    match word {
-        "configure" => Some(26),
-        "cget" => Some(27),
-        "search" => Some(28),
-        "count" => Some(29),
-        "dump" => Some(30),
-        _ => None,
-    }
-}
-
-/// The place of the entry of a subcommand of one word. Few words stand in each `match`, since of one of more LLVM makes
-/// calls, and no jump by the length.
-fn place_alone(word: &str) -> Option<usize>
-    ensures { IfSome result (λ place. (rest : List Word) → IsPlaceOf place (chars word.now ∷ rest)) }
-{
-    match place_plain(word) {
-        None => place_optioned(word),
-        Some(place) => Some(place),
     }
 }
 
 /// The place of the entry of `mark` with a word behind it.
-fn place_in_mark(word: &str) -> Option<usize>
+fn place_in_mark(word: &[u8]) -> Option<usize>
     ensures { IfSome result (λ place. (rest : List Word) → IsPlaceOf place (literal "mark" ∷ chars word.now ∷ rest)) }
 {
     match word {
-        "gravity" => Some(6),
-        "names" => Some(7),
-        "next" => Some(8),
-        "previous" => Some(9),
-        "set" => Some(10),
-        "unset" => Some(11),
+        b"gravity" => Some(6),
+        b"names" => Some(7),
+        b"next" => Some(8),
+        b"previous" => Some(9),
+        b"set" => Some(10),
+        b"unset" => Some(11),
         _ => None,
     }
 }
 
 /// The place of the entry of `tag` with a word behind it.
-fn place_in_tag(word: &str) -> Option<usize>
+fn place_in_tag(word: &[u8]) -> Option<usize>
     ensures { IfSome result (λ place. (rest : List Word) → IsPlaceOf place (literal "tag" ∷ chars word.now ∷ rest)) }
 {
     match word {
-        "add" => Some(12),
-        "remove" => Some(13),
-        "delete" => Some(14),
-        "names" => Some(15),
-        "ranges" => Some(16),
-        "nextrange" => Some(17),
-        "prevrange" => Some(18),
-        "raise" => Some(19),
-        "lower" => Some(20),
+        b"add" => Some(12),
+        b"remove" => Some(13),
+        b"delete" => Some(14),
+        b"names" => Some(15),
+        b"ranges" => Some(16),
+        b"nextrange" => Some(17),
+        b"prevrange" => Some(18),
+        b"raise" => Some(19),
+        b"lower" => Some(20),
         _ => None,
     }
 }
 
 /// The place of the entry of `edit` with a word behind it.
-fn place_in_edit(word: &str) -> Option<usize>
+fn place_in_edit(word: &[u8]) -> Option<usize>
     ensures { IfSome result (λ place. (rest : List Word) → IsPlaceOf place (literal "edit" ∷ chars word.now ∷ rest)) }
 {
     match word {
-        "modified" => Some(21),
-        "undo" => Some(22),
-        "redo" => Some(23),
-        "reset" => Some(24),
-        "separator" => Some(25),
+        b"modified" => Some(21),
+        b"undo" => Some(22),
+        b"redo" => Some(23),
+        b"reset" => Some(24),
+        b"separator" => Some(25),
         _ => None,
     }
 }
 
 /// The place of the entry of `peer` with a word behind it.
-fn place_in_peer(word: &str) -> Option<usize>
+fn place_in_peer(word: &[u8]) -> Option<usize>
     ensures { IfSome result (λ place. (rest : List Word) → IsPlaceOf place (literal "peer" ∷ chars word.now ∷ rest)) }
 {
     match word {
-        "create" => Some(31),
-        "names" => Some(32),
+        b"create" => Some(31),
+        b"names" => Some(32),
         _ => None,
     }
 }
 
-/// The place of the entry of a family's word with a word behind it.
-fn place_in_family(family: &str, word: &str) -> Option<usize>
+/// The place of the entry of a family's member, or else of a subcommand that is the first word alone.
+fn place_of_pair(first: &[u8], second: &[u8]) -> Option<usize>
     ensures { IfSome result (λ place.
-        (rest : List Word) → IsPlaceOf place (chars family.now ∷ chars word.now ∷ rest)) }
+        (rest : List Word) → IsPlaceOf place (chars first.now ∷ chars second.now ∷ rest)) }
 {
-    match family {
-        "mark" => place_in_mark(word),
-        "tag" => place_in_tag(word),
-        "edit" => place_in_edit(word),
-        "peer" => place_in_peer(word),
-        _ => None,
+    match first {
+        b"mark" => place_in_mark(second),
+        b"tag" => place_in_tag(second),
+        b"edit" => place_in_edit(second),
+        b"peer" => place_in_peer(second),
+        _ => place_alone(first),
     }
 }
 
@@ -433,11 +435,8 @@ fn place_of(words: &[String]) -> Option<usize>
 {
     match words {
         [] => None,
-        [first] => place_alone(first.as_str()),
-        [first, second, ..] => match place_in_family(first.as_str(), second.as_str()) {
-            None => place_alone(first.as_str()),
-            Some(place) => Some(place),
-        },
+        [word] => place_alone(word.as_bytes()),
+        [first, second, ..] => place_of_pair(first.as_bytes(), second.as_bytes()),
     }
 }
 

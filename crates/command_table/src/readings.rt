@@ -1,11 +1,11 @@
 //! Reads the words of a command as its shape, or reports why they are no command.
 
-ghost use Rattle.std.specs.Prelude.{◌≡◌, ◌<◌, ◌≤◌, ◌+◌, length, IfOk};
+ghost use Rattle.std.specs.Prelude.{◌≡◌, ◌<◌, ◌≤◌, ◌+◌, ◌∷◌, chars, length, option_map, IfOk, IfSome};
 ghost use Rattle.command_table.specs.Words.{texts_of};
-ghost use Rattle.command_table.specs.Reading.{behind, unknown, subcommand, reading};
-ghost use Rattle.command_table.specs.Table.{destroy_entry, text_entry};
+ghost use Rattle.command_table.specs.Reading.{found, unknown, reading};
+ghost use Rattle.command_table.specs.Spelled.{spelled, entry_rule};
 
-use crate::entries::{destroy_entry, find_entry, goes_on, text_entry};
+use crate::entries::{Entry, destroy_entry, find_entry, goes_on, text_entry};
 use crate::shapes::{Shape, ShapeFault};
 use crate::words::is_word;
 
@@ -22,39 +22,19 @@ fn unknown(words: &[String]) -> ShapeFault
     }
 }
 
-/// What the words behind the name of a widget are.
-fn subcommand(words: &[String]) -> Result<Shape, ShapeFault>
-    ensures value { result ≡ subcommand (texts_of words.now) }
-    ensures within { IfOk result (λ shape. shape.arguments + shape.count ≤ 1 + length words.now) }
-    ensures ordered { IfOk result (λ shape. shape.switches ≤ shape.arguments) }
+/// The entry of a command by its name and the words after it, or `None` where these begin no subcommand.
+fn entry_of(name: &str, words: &[String]) -> Option<&'static Entry>
+    ensures value { found (texts_of words.now) (option_map (λ entry. entry_rule entry.now) result)
+        ≡ reading (chars name.now ∷ texts_of words.now) }
+    ensures short { IfSome result (λ entry. length (spelled entry.now.spelling) ≤ length words.now) }
 {
-    match find_entry(words) {
-        None => Err(unknown(words)),
-        Some(entry) => {
-            let count = entry.spelling.len();
-            entry.read(1 + count, &words[count..])
-        }
+    if is_word(name, "text") {
+        Some(text_entry())
+    } else if is_word(name, "destroy") {
+        Some(destroy_entry())
+    } else {
+        find_entry(words)
     }
-}
-
-/// What the words behind `text` are.
-fn creation(words: &[String]) -> Result<Shape, ShapeFault>
-    requires { 1 + length words.now ≤ usize.MAX }
-    ensures value { result ≡ behind text_entry 1 (texts_of words.now) }
-    ensures within { IfOk result (λ shape. shape.arguments + shape.count ≤ 1 + length words.now) }
-    ensures ordered { IfOk result (λ shape. shape.switches ≤ shape.arguments) }
-{
-    text_entry().read(1, words)
-}
-
-/// What the words behind `destroy` are.
-fn destruction(words: &[String]) -> Result<Shape, ShapeFault>
-    requires { 1 + length words.now ≤ usize.MAX }
-    ensures value { result ≡ behind destroy_entry 1 (texts_of words.now) }
-    ensures within { IfOk result (λ shape. shape.arguments + shape.count ≤ 1 + length words.now) }
-    ensures ordered { IfOk result (λ shape. shape.switches ≤ shape.arguments) }
-{
-    destroy_entry().read(1, words)
 }
 
 /// What the words of a command are, for `text`, `destroy` or the command of a widget, whatever its name is: first the
@@ -68,11 +48,11 @@ pub fn shape(words: &[String]) -> Result<Shape, ShapeFault>
     let [name, rest @ ..] = words else {
         unreachable!()
     };
-    if is_word(name.as_str(), "text") {
-        creation(rest)
-    } else if is_word(name.as_str(), "destroy") {
-        destruction(rest)
-    } else {
-        subcommand(rest)
+    match entry_of(name.as_str(), rest) {
+        None => Err(unknown(rest)),
+        Some(entry) => {
+            let count = entry.spelling.len();
+            entry.read(1 + count, &rest[count..])
+        }
     }
 }
