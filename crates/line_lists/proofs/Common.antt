@@ -1,10 +1,11 @@
 -- The names that most proofs of this crate cite, passed on from one place. Declares nothing.
-pub use Rattle.std.proofs.Common.{[], ap₂, subst₂, ℕ, ◌%◌, ◌&&◌, ◌++◌, ◌+◌, ◌-◌, ◌<◌, ◌==◌, ◌^◌, ◌||◌, ◌∙◌, ◌∷◌, ◌≡◌}
-pub use Rattle.std.proofs.Common.{◌≢◌, ◌≤◌, ◌⊎◌, Bool, Err, Global, IfSome, List, None, Ok, Option, Result, Some, T}
-pub use Rattle.std.proofs.Common.{Vec, add-one, ap, append_assoc, arith, chars, cond, drop, eqb-true, false, get_or}
-pub use Rattle.std.proofs.Common.{inl, inr, length, length-append, length-drop, length-take, map, max, min, nat_lt, not}
-pub use Rattle.std.proofs.Common.{refl, replicate, rules, set, subst, suc, sym, take, take-append-drop, true, vec_len}
-pub use Rattle.std.proofs.Common.{w8, zero}
+pub use Rattle.std.proofs.Common.{[], ap₂, subst₂, true≢false, ℕ, ◌%◌, ◌&&◌, ◌++◌, ◌+◌, ◌-◌, ◌<◌, ◌==◌, ◌^◌, ◌||◌, ◌∙◌}
+pub use Rattle.std.proofs.Common.{◌∷◌, ◌≡◌, ◌≢◌, ◌≤◌, ◌⊎◌, Bool, Err, Global, IfSome, List, None, Ok, Option, Result}
+pub use Rattle.std.proofs.Common.{Some, T, Vec, add-one, ap, append_assoc, arith, chars, cond, drop, eqb-true, false}
+pub use Rattle.std.proofs.Common.{get_or, inl, inr, length, length-append, length-drop, length-take, map, max, min}
+pub use Rattle.std.proofs.Common.{nat_lt, not, refl, replicate, rules, set, subst, suc, sym, take, take-append-drop}
+pub use Rattle.std.proofs.Common.{true, vec_len, w8, zero}
+pub use Rattle.line_lists.specs.Changes.{CanChange, IsChangedBy, lines_changed, lines_freed}
 pub use Rattle.line_lists.specs.Clearing.{AreFree, free_end, free_length, lines_on}
 pub use Rattle.line_lists.specs.DraftTexts.{IsDraftIn, IsTextIn, lines_in, taken_in, text_in}
 pub use Rattle.line_lists.specs.Drafts.{AreStops, BeginsBehind, BeginsBy, CanFollow, IsBefore, IsDraft, IsFound}
@@ -17,7 +18,7 @@ pub use Rattle.line_lists.specs.Insertions.{IsOpen, IsPartly, Opens, StandRight}
 pub use Rattle.line_lists.specs.Lists.{AreApart, AreLines, AreRows, GoesBefore, Holds, IsCounted, IsLine, IsMarked}
 pub use Rattle.line_lists.specs.Lists.{NumbersBelow, SameNumbers, StandBefore, StandWithin, count_of, has_mark}
 pub use Rattle.line_lists.specs.Lists.{has_marks, has_toggle, more_lines, next_line, previous_line, row_of, spliced}
-pub use Rattle.line_lists.specs.Marking.{MovesTo, StandsIn, lines_with}
+pub use Rattle.line_lists.specs.Marking.{StandsIn, lines_with}
 pub use Rattle.line_lists.specs.Pieces.{CanMake, CanPlace, Covers, FitsIn, Follows, content_made, copied_lines, freed}
 pub use Rattle.line_lists.specs.Pieces.{lines_more, named, numbers_in, numbers_of, piece_lines, placed, rows_more}
 pub use Rattle.line_lists.specs.Places.{IsAt}
@@ -29,7 +30,7 @@ pub use Rattle.line_lists.specs.declared.drafts.Copied.{Copied}
 pub use Rattle.line_lists.specs.declared.drafts.Reached.{Reached}
 pub use Rattle.line_lists.specs.declared.drafts.Stop.{Stop}
 pub use Rattle.line_lists.specs.declared.pieces.Piece.{Piece}
-pub use Rattle.line_lists.specs.declared.store.Change.{Change}
+pub use Rattle.line_lists.specs.declared.store.PieceChange.{PieceChange}
 pub use Rattle.segments.proofs.MarkLaws.{get-joined_marks, joined_none, or_else, tied_same}
 pub use Rattle.segments.proofs.PlainLaws.{characters-plain}
 pub use Rattle.segments.specs.Columns.{Column, LineContent, after_removal, after_text, characters, earlier, joined}
@@ -43,8 +44,8 @@ pub use Rattle.std.proofs.lemmas.Bool.Decides.{nat_tests}
 pub use Rattle.std.proofs.lemmas.List.{append-nil, at_drop_more, drop-append-le, drop-drop, drop-map, drop-take}
 pub use Rattle.std.proofs.lemmas.List.{drop_all, drop_at, drop_more, get_or-drop, get_or-take, get_or_default}
 pub use Rattle.std.proofs.lemmas.List.{length-map, length-reverse, length-set, length-take-le, map-append}
-pub use Rattle.std.proofs.lemmas.List.{nil_from_length, reverse-append, take-append-le, take-map, take-take, take_all}
-pub use Rattle.std.proofs.lemmas.List.{take_at, take_more, take_more_set}
+pub use Rattle.std.proofs.lemmas.List.{nil_from_length, reverse-append, set_split, take-append-le, take-map, take-take}
+pub use Rattle.std.proofs.lemmas.List.{take_all, take_at, take_more, take_more_set}
 pub use Rattle.std.proofs.lemmas.List.Edits.{map_over_more, split_between}
 pub use Rattle.std.proofs.lemmas.List.Elements.{All-append, All-cons, All-drop, All-head, All-nil, All-push, All-tail}
 pub use Rattle.std.proofs.lemmas.List.Elements.{All-take, All-weaker}
@@ -62,8 +63,8 @@ pub use Rattle.std.specs.FinMap.Entries.{below_all, same_entries}
 pub use Rattle.std.specs.List.{All, filter, position, position_or_len, prefix_len, suffix_len}
 pub use Rattle.std.specs.Option.{IsSome, SomeIff, ok_or, option_copied}
 pub use Rattle.std.specs.Ordering.{eq_by_cmp, is_lt, nat_cmp}
-pub use Rattle.std.specs.Prelude.{if◌then◌else◌, OnOk, encode_utf8, encode_utf8_all, is_some, nat_le, option_map}
-pub use Rattle.std.specs.Prelude.{option_to_list, reverse, slice_get, slice_range, string_bytes, unwrap_or}
+pub use Rattle.std.specs.Prelude.{if◌then◌else◌, IfNone, OnOk, encode_utf8, encode_utf8_all, is_some, nat_le}
+pub use Rattle.std.specs.Prelude.{option_map, option_to_list, reverse, slice_get, slice_range, string_bytes, unwrap_or}
 pub use Rattle.std.specs.Simd.Lanes.{chunk, mask_l, top, zip2}
 pub use Rattle.text_model.proofs.CellLaws.{contains-set_slot}
 pub use Rattle.text_model.proofs.ChangeLaws.{next_change-above, next_change_is, previous_change-below}
@@ -93,6 +94,7 @@ pub use Rattle.text_model.specs.declared.edits.Step.TheVariants.{ClearSlot, Clea
 pub use Rattle.text_model.specs.declared.edits.Step.TheVariants.{TakeMark}
 pub use Rattle.text_model.specs.declared.places.MarkNo.{MarkNo}
 pub use Rattle.text_model.specs.declared.places.Place.{Place}
+pub use Rattle.text_model.specs.declared.places.TagSlot.{TagSlot}
 pub use Rattle.toggle_sums.proofs.ToggleLaws.{presence-append, tags_by_parity}
 pub use Rattle.toggle_sums.specs.CountLaws.{contains-differing, differing-associative, differing-commutative}
 pub use Rattle.toggle_sums.specs.CountLaws.{differing-empty, either, empty-differing, no_text-plus, plus-associative}

@@ -15,6 +15,7 @@ pub mod HeldLaws
 pub mod InsertionLaws
 pub mod JoinLaws
 pub mod KnownLaws
+pub mod LineChangeLaws
 pub mod LineSpans
 pub mod LineStarts
 pub mod ListLaws
@@ -22,7 +23,6 @@ pub mod MadeLaws
 pub mod MarkPlaces
 pub mod MarkRows
 pub mod MarksAtRows
-pub mod MoveLaws
 pub mod NearChanges
 pub mod NearMarks
 pub mod NewlineBytes

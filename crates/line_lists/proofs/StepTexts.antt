@@ -9,8 +9,7 @@ use Rattle.line_lists.proofs.Common.{length-changed, length-after_step, differin
 use Rattle.line_lists.proofs.Common.{Column, LineContent, after_text, tags_before, toggled_first, with_toggle, Copied}
 use Rattle.line_lists.proofs.Common.{Stop, StandsAt, copies_of, lines_before, lines_behind, taken_lines, made}
 use Rattle.line_lists.proofs.Common.{with_cleared, with_mark, with_toggled, without_mark, text_of, whole, switched}
-use Rattle.line_lists.proofs.Common.{tags_left_of, toggled_before}
-use Rattle.text_model.specs.declared.places.TagSlot.{TagSlot}
+use Rattle.line_lists.proofs.Common.{tags_left_of, toggled_before, TagSlot}
 use Rattle.line_lists.proofs.ClearingLaws.{tags-around}
 use Rattle.line_lists.proofs.EditLaws.{length-text}
 use Rattle.line_lists.proofs.FreedLaws.{eq_self}

@@ -1,3 +1,4 @@
+pub mod Changes
 pub mod Clearing
 pub mod DraftTexts
 pub mod Drafts

@@ -22,11 +22,3 @@ pub record StandsIn (number offset : ℕ) (lines : List LineContent) : Type 0 wh
 -- the lines that are kept before a copy that follows what is covered, and its line
 abbrev pub lines_with : Reached → Copied → List LineContent → List LineContent
 lines_with reached copy lines = take copy.kept (drop reached.used lines) ++ copy.line ∷ []
-
--- the mark of a number goes to a place in a line, of which a copy has it: what comes of lines that had it elsewhere
-pub record MovesTo (number : ℕ) (place : Place) (lines : List LineContent) (copy : Copied) : Type 0 where
-  pub one : copy.gone ≡ 1
-  pub within : copy.kept < length lines
-  pub rows : AreRows (spliced copy.kept 1 (copy.line ∷ []) (map (without_mark number) lines))
-  pub whole : whole (spliced copy.kept 1 (copy.line ∷ []) (map (without_mark number) lines))
-      ≡ with_mark number place (whole lines)

@@ -9,7 +9,7 @@ use Rattle.toggle_sums.specs.Counts.{Count, plus}
 use Rattle.segments.specs.Columns.{LineContent}
 use Rattle.line_lists.specs.declared.drafts.Copied.{Copied}
 use Rattle.line_lists.specs.declared.pieces.Piece.{Piece}
-use Rattle.line_lists.specs.declared.store.Change.{Change}
+use Rattle.line_lists.specs.declared.store.PieceChange.{PieceChange}
 use Rattle.line_lists.specs.Edits.{without_mark}
 use Rattle.line_lists.specs.Lists.{AreApart, AreLines, AreRows, IsCounted, NumbersBelow, count_of, more_lines, row_of}
 use Rattle.line_lists.specs.Lists.{spliced}
@@ -78,14 +78,14 @@ pub record Covers (pieces : List Piece) (used : ℕ) (made base : List LineConte
   pub can : (rest : List LineContent) → Follows used made base sum rest → CanPlace pieces (take used base ++ rest)
 
 -- a change can be made of lines, and what it brings is counted
-pub record CanMake (base : List LineContent) (change : Change) : Type 0 where
+pub record CanMake (base : List LineContent) (change : PieceChange) : Type 0 where
   pub can : CanPlace change.pieces.items (freed (named change.taken.items) base)
   pub lines : change.growth.lines ≡ lines_more change.pieces.items
   pub rows : change.growth.rows ≡ rows_more change.pieces.items
   pub below : All (λ number. number < change.bound) (numbers_in (piece_lines change.pieces.items))
 
 -- what it makes of them
-abbrev pub content_made : Change → List LineContent → Content
+abbrev pub content_made : PieceChange → List LineContent → Content
 content_made change lines = content_of (placed change.pieces.items (freed (named change.taken.items) lines))
 
 -- a list with such room takes pieces, once the marks of some numbers are taken off

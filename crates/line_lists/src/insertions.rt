@@ -27,7 +27,7 @@ fn lines_ahead(passed: usize, ahead: usize) -> usize {
 }
 
 /// The first line of a text with its newline, and the text behind it; nothing where there is no newline.
-fn cut_line(text: &str) -> Option<(&str, &str)>
+pub fn cut_line(text: &str) -> Option<(&str, &str)>
     ensures line { IfSome result (λ parts. IsLine (plain_line (chars parts.0.now))) }
     ensures parts { IfSome result (λ parts. chars text.now ≡ chars parts.0.now ++ chars parts.1.now) }
     ensures less { IfSome result (λ parts. length parts.1.now < length text.now) }

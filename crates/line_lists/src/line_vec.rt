@@ -239,6 +239,10 @@ impl LineList for LineVec {
         take_marks(&mut self.lines, number);
     }
 
+    fn replace(&mut self, index: usize, line: Line) {
+        self.lines[index] = line;
+    }
+
     fn splice(&mut self, from: usize, count: usize, new: Vec<Line>) {
         // The lines that go leave their room to those that come.
         drop_lines(&mut self.lines, from, from + count);

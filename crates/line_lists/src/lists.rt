@@ -165,6 +165,16 @@ pub trait LineList: Drop {
         ensures room { (count rows : ℕ) → has_room self.old count rows → has_room self.new count rows }
         ensures numbers { mark_room self.old ≤ mark_room self.new };
 
+    /// Puts a line in the place of another, which takes no room.
+    fn replace(&mut self, index: usize, line: Line)
+        requires within { index < length (lines self.old) }
+        requires numbers { NumbersBelow (mark_room self.old) line.marks }
+        requires lines { AreLines (spliced index 1 (line ∷ []) (lines self.old)) }
+        requires counted { IsCounted (plus (count_of (lines self.old)) (count_of (line ∷ []))) }
+        ensures lines { lines self.new ≡ spliced index 1 (line ∷ []) (lines self.old) }
+        ensures room { (count rows : ℕ) → has_room self.old count rows → has_room self.new count rows }
+        ensures numbers { mark_room self.old ≤ mark_room self.new };
+
     /// Puts lines in the place of so many from one on: only those beyond these take room, in one row.
     fn splice(&mut self, from: usize, count: usize, new: Vec<Line>)
         requires within { from + count ≤ length (lines self.old) }

@@ -18,7 +18,7 @@ use std::alloc::AllocError;
 use text_model::{MarkNo, Place, Step, TagSet, TagSlot, count_characters};
 
 /// The slots that change where one is put in a set, or taken out.
-fn switched_slots(before: &TagSet, slot: TagSlot, is_on: bool) -> TagSet
+pub fn switched_slots(before: &TagSet, slot: TagSlot, is_on: bool) -> TagSet
     requires { slot.0 < slot_count }
     ensures { result ≡ differing before.now (set_slot slot.0 is_on before.now) }
 {

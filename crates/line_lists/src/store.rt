@@ -1,19 +1,20 @@
 //! A text store over any list of lines: prepares an edit as a change of the list, then commits it.
 
-ghost use Rattle.std.specs.Prelude.{◌≡◌, ◌≢◌, ◌≤◌, List, [], ◌∷◌, IfOk, OnOk, length, map};
+ghost use Rattle.std.specs.Prelude.{◌≡◌, ◌≢◌, ◌≤◌, List, [], ◌∷◌, IfOk, IfSome, OnOk, length, map};
 ghost use Rattle.text_model.specs.Steps.{Fits, after};
-ghost use Rattle.text_model.specs.declared.edits.Step.TheVariants.{PutMark, TakeMark};
+ghost use Rattle.text_model.specs.declared.edits.Step.TheVariants.{TakeMark};
 ghost use Rattle.segments.specs.Columns.{LineContent};
 ghost use Rattle.line_lists.specs.Drafts.{IsText, text_at};
+ghost use Rattle.line_lists.specs.Changes.{CanChange, IsChangeReady, IsLineReady, lines_changed, outcome_of};
 ghost use Rattle.line_lists.specs.Pieces.{CanMake, IsReady, content_made, named, numbers_in, piece_lines};
 ghost use Rattle.line_lists.specs.Texts.{content_of, text_of};
 
 use crate::drafts::{Draft, Stop};
+use crate::line_changes::{LineChange, line_change, put_line};
 use crate::lists::LineList;
-use crate::moves::{alone, copy_with_mark, lone_mark, lone_takes};
 use crate::pieces::{
-    Growth, Piece, bound_of, bound_with, count_line, growth_of, numbers_brought, piece_of,
-    pieces_of, place, take_marks,
+    Growth, Piece, bound_of, bound_with, count_line, growth_of, numbers_brought, pieces_of, place,
+    take_marks,
 };
 use crate::queries;
 use std::alloc::{AllocError, Global};
@@ -26,16 +27,25 @@ pub struct LineStore<L: LineList> {
     list: L,
 }
 
-/// What an edit makes of a list of lines: pieces of it.
+/// Pieces that come in the places of lines.
 #[derive(Drop)]
-pub struct Change {
+pub struct PieceChange {
     /// The marks that are taken off the list before the pieces come in.
-    taken: Vec<MarkNo>,
-    pieces: Vec<Piece>,
+    pub taken: Vec<MarkNo>,
+    pub pieces: Vec<Piece>,
     /// What the pieces bring.
-    growth: Growth,
+    pub growth: Growth,
     /// A number above those of all marks in these lines.
-    bound: usize,
+    pub bound: usize,
+}
+
+/// What an edit makes of a list of lines.
+#[derive(Drop)]
+pub enum Change {
+    /// One line comes in the place of another.
+    Line(LineChange),
+    /// Lines come in the places of others.
+    Pieces(PieceChange),
 }
 
 /// Of the numbers of all marks that pieces bring, those that are taken off the list before. A mark that goes from one
@@ -53,7 +63,11 @@ fn taken_before(alloc: Global, pieces: &[Piece]) -> Result<Vec<MarkNo>, AllocErr
 }
 
 /// What copies of lines of a list, in order, make of it.
-fn change_of<L: LineList>(alloc: Global, list: &L, front: Vec<Stop>) -> Result<Change, AllocError>
+fn change_of<L: LineList>(
+    alloc: Global,
+    list: &L,
+    front: Vec<Stop>,
+) -> Result<PieceChange, AllocError>
     requires { IsText (L.lines list.now) front.items [] }
     ensures can { IfOk result (CanMake (L.lines list.now)) }
     ensures new { IfOk result (λ change. content_made change (L.lines list.now)
@@ -61,7 +75,7 @@ fn change_of<L: LineList>(alloc: Global, list: &L, front: Vec<Stop>) -> Result<C
 {
     let bound = bound_of(&front);
     let pieces = pieces_of(alloc, list, front)?;
-    Ok(Change {
+    Ok(PieceChange {
         taken: taken_before(alloc, &pieces)?,
         growth: growth_of(&pieces)?,
         pieces,
@@ -69,40 +83,28 @@ fn change_of<L: LineList>(alloc: Global, list: &L, front: Vec<Stop>) -> Result<C
     })
 }
 
-/// What the mark of a number makes of a list of lines where it goes to a place. It is taken off the list wherever it
-/// stood, so the line to which it goes is the only one that is copied.
-fn change_by_mark<L: LineList>(
-    alloc: Global,
-    list: &L,
-    number: MarkNo,
-    place: Place,
-) -> Result<Change, AllocError>
-    requires { place.offset ≤ length (content_of (L.lines list.now)).cells }
-    ensures can { IfOk result (CanMake (L.lines list.now)) }
-    ensures new { IfOk result (λ change. content_made change (L.lines list.now)
-        ≡ after (PutMark number place ∷ []) (content_of (L.lines list.now))) }
+/// The numbers of the marks that steps take away, if they do nothing else.
+pub fn lone_takes(alloc: Global, steps: &[Step]) -> Result<Option<Vec<MarkNo>>, AllocError>
+    ensures { IfOk result (λ found.
+        IfSome found (λ numbers. steps.now ≡ map (λ number. TakeMark number) numbers.items)) }
 {
-    let copy = copy_with_mark(list, number, place)?;
-    count_line(list, &copy.line)?;
-    let bound = bound_with(0, &copy.line);
-    let taken = alone(alloc, number)?;
-    let piece = piece_of(alloc, copy.kept, copy, 1)?;
-    let pieces = alone(alloc, piece)?;
-    Ok(Change {
-        taken,
-        pieces,
-        growth: Growth { lines: 0, rows: 0 },
-        bound,
-    })
+    let mut numbers = Vec::new(alloc);
+    for step in steps {
+        let Step::TakeMark(number) = step else {
+            return Ok(None);
+        };
+        numbers.push(*number)?;
+    }
+    Ok(Some(numbers))
 }
 
 /// What it makes of any list of lines that marks are taken away.
-fn change_by_taking(alloc: Global, numbers: Vec<MarkNo>) -> Change
+fn change_by_taking(alloc: Global, numbers: Vec<MarkNo>) -> PieceChange
     ensures can { (lines : List LineContent) → CanMake lines result }
     ensures new { (lines : List LineContent) → content_made result lines
         ≡ after (map (λ number. TakeMark number) numbers.items) (content_of lines) }
 {
-    Change {
+    PieceChange {
         taken: numbers,
         pieces: Vec::new(alloc),
         growth: Growth { lines: 0, rows: 0 },
@@ -110,16 +112,34 @@ fn change_by_taking(alloc: Global, numbers: Vec<MarkNo>) -> Change
     }
 }
 
-/// What steps make of a list of lines, which stays as it is.
-fn change_by<L: LineList>(alloc: Global, list: &L, steps: &[Step]) -> Result<Change, AllocError>
+/// What steps make of one line of a list, where there is one step, which changes that line alone.
+fn lone_change<L: LineList>(list: &L, steps: &[Step]) -> Result<Option<LineChange>, AllocError>
+    requires { Fits steps.now (content_of (L.lines list.now)) }
+    ensures can { IfOk result (λ found. IfSome found (CanChange (L.lines list.now))) }
+    ensures new { IfOk result (λ found. IfSome found (λ change.
+        content_of (lines_changed change (L.lines list.now)) ≡ after steps.now (content_of (L.lines list.now)))) }
+{
+    let [step] = steps else {
+        return Ok(None);
+    };
+    let Some(change) = line_change(list, step)? else {
+        return Ok(None);
+    };
+    count_line(list, &change.line)?;
+    Ok(Some(change))
+}
+
+/// What steps make of pieces of a list of lines, which stays as it is.
+fn pieces_by<L: LineList>(
+    alloc: Global,
+    list: &L,
+    steps: &[Step],
+) -> Result<PieceChange, AllocError>
     requires { Fits steps.now (content_of (L.lines list.now)) }
     ensures can { IfOk result (CanMake (L.lines list.now)) }
     ensures new { IfOk result (λ change. content_made change (L.lines list.now)
         ≡ after steps.now (content_of (L.lines list.now))) }
 {
-    if let Some((number, place)) = lone_mark(steps) {
-        return change_by_mark(alloc, list, number, place);
-    }
     if let Some(numbers) = lone_takes(alloc, steps)? {
         return Ok(change_by_taking(alloc, numbers));
     }
@@ -130,19 +150,16 @@ fn change_by<L: LineList>(alloc: Global, list: &L, steps: &[Step]) -> Result<Cha
 }
 
 /// The same of steps that go, with their texts, before the pieces are made.
-fn change_by_owned<L: LineList>(
+fn pieces_by_owned<L: LineList>(
     alloc: Global,
     list: &L,
     steps: Vec<Step>,
-) -> Result<Change, AllocError>
+) -> Result<PieceChange, AllocError>
     requires { Fits steps.items (content_of (L.lines list.now)) }
     ensures can { IfOk result (CanMake (L.lines list.now)) }
     ensures new { IfOk result (λ change. content_made change (L.lines list.now)
         ≡ after steps.items (content_of (L.lines list.now))) }
 {
-    if let Some((number, place)) = lone_mark(&steps) {
-        return change_by_mark(alloc, list, number, place);
-    }
     if let Some(numbers) = lone_takes(alloc, &steps)? {
         return Ok(change_by_taking(alloc, numbers));
     }
@@ -162,20 +179,36 @@ impl<L: LineList> LineStore<L> {
     }
 
     /// Reserves what a change takes; where that is refused, all that was reserved goes back.
-    fn reserve(&mut self, change: &Change) -> Result<(), AllocError>
+    fn reserve(&mut self, growth: Growth, bound: usize) -> Result<(), AllocError>
+        ensures same { L.lines self.new.list ≡ L.lines self.old.list }
+        ensures room { OnOk result (L.has_room self.new.list growth.lines growth.rows) }
+        ensures numbers { OnOk result (bound ≤ L.mark_room self.new.list) }
+    {
+        let reserved = self.list.reserve(growth.lines, growth.rows, bound);
+        if reserved.is_err() {
+            self.list.free_room();
+        }
+        reserved
+    }
+
+    /// Reserves what one changed line takes.
+    fn reserve_line(&mut self, change: &LineChange) -> Result<(), AllocError>
+        requires { CanChange (L.lines self.old.list) change.now }
+        ensures same { L.lines self.new.list ≡ L.lines self.old.list }
+        ensures ready { OnOk result (IsLineReady (L.lines self.new.list) (L.mark_room self.new.list) change.now) }
+    {
+        let growth = Growth { lines: 0, rows: 0 };
+        self.reserve(growth, bound_with(0, &change.line))
+    }
+
+    /// Reserves what pieces take.
+    fn reserve_pieces(&mut self, change: &PieceChange) -> Result<(), AllocError>
         requires { CanMake (L.lines self.old.list) change.now }
         ensures same { L.lines self.new.list ≡ L.lines self.old.list }
         ensures ready { OnOk result (IsReady (L.lines self.new.list) (L.has_room self.new.list)
             (L.mark_room self.new.list) (named change.now.taken.items) change.now.pieces.items) }
     {
-        let Growth { lines, rows } = change.growth;
-        match self.list.reserve(lines, rows, change.bound) {
-            Ok(()) => Ok(()),
-            Err(refused) => {
-                self.list.free_room();
-                Err(refused)
-            }
-        }
+        self.reserve(change.growth, change.bound)
     }
 }
 
@@ -185,10 +218,9 @@ impl<L: LineList> TextStore for LineStore<L> {
     ghost content = { λ store. content_of (L.lines store.list) };
 
     ghost ready = { λ store change.
-        IsReady (L.lines store.list) (L.has_room store.list) (L.mark_room store.list)
-        (named change.taken.items) change.pieces.items };
+        IsChangeReady (L.lines store.list) (L.has_room store.list) (L.mark_room store.list) change };
 
-    ghost outcome = { λ store change. content_made change (L.lines store.list) };
+    ghost outcome = { λ store change. outcome_of change (L.lines store.list) };
 
     fn new(alloc: Global) -> Result<LineStore<L>, AllocError> {
         Ok(LineStore {
@@ -274,21 +306,36 @@ impl<L: LineList> TextStore for LineStore<L> {
     }
 
     fn prepare(&mut self, edit: &Edit) -> Result<Change, AllocError> {
-        let change = change_by(self.alloc, &self.list, edit.steps.as_slice())?;
-        self.reserve(&change)?;
-        Ok(change)
+        let steps = edit.steps.as_slice();
+        if let Some(change) = lone_change(&self.list, steps)? {
+            self.reserve_line(&change)?;
+            return Ok(Change::Line(change));
+        }
+        let change = pieces_by(self.alloc, &self.list, steps)?;
+        self.reserve_pieces(&change)?;
+        Ok(Change::Pieces(change))
     }
 
     fn prepare_owned(&mut self, edit: Edit) -> Result<Change, AllocError> {
-        let change = change_by_owned(self.alloc, &self.list, edit.steps.into_vec())?;
-        self.reserve(&change)?;
-        Ok(change)
+        let steps = edit.steps.into_vec();
+        if let Some(change) = lone_change(&self.list, &steps)? {
+            self.reserve_line(&change)?;
+            return Ok(Change::Line(change));
+        }
+        let change = pieces_by_owned(self.alloc, &self.list, steps)?;
+        self.reserve_pieces(&change)?;
+        Ok(Change::Pieces(change))
     }
 
     fn commit(&mut self, change: Change) {
-        take_marks(&mut self.list, &change.taken);
-        place(&mut self.list, change.pieces);
-        // What these pieces didn't need of the room that was reserved for them, and what is left of lines that went.
+        match change {
+            Change::Line(change) => put_line(&mut self.list, change),
+            Change::Pieces(change) => {
+                take_marks(&mut self.list, &change.taken);
+                place(&mut self.list, change.pieces);
+            }
+        }
+        // What these lines didn't need of the room that was reserved for them, and what is left of lines that went.
         self.list.free_room();
     }
 }

@@ -1,12 +1,11 @@
 //! The list of lines over the balanced tree, with the name of each mark's line.
 
-ghost use Rattle.std.specs.Prelude.{◌≡◌, ◌+◌, ◌<◌, ◌≤◌, [], ◌∷◌, IfSome, length};
-ghost use Rattle.toggle_sums.specs.Counts.{plus};
-ghost use Rattle.line_lists.specs.Lists.{AreLines, IsCounted, NumbersBelow, count_of, spliced};
+ghost use Rattle.std.specs.Prelude.{◌≡◌, ◌<◌, IfSome, length};
+ghost use Rattle.line_lists.specs.Lists.{AreLines};
 ghost use Rattle.line_lists.specs.RowLaws.{AreLines-prop};
 ghost use Rattle.line_tree.specs.MarkTable.{IsTable, IsTable-prop};
 ghost use Rattle.line_tree.specs.Places.{IsLineAt};
-ghost use Rattle.line_tree.specs.Room.{HasRoom, KeepsRoom};
+ghost use Rattle.line_tree.specs.Room.{HasRoom};
 ghost use Rattle.line_tree.specs.Trees.{contents};
 
 use crate::mark_names::{forget, grow, name_of, note, write};
@@ -35,23 +34,6 @@ impl TreeLines {
         ensures are { AreLines (contents result.now.lines) }
     {
         &self.tree
-    }
-
-    /// Puts a line in the place of another. That one is looked for once, where a splice looks for it to forget what
-    /// marks stood there, to put the line in, and to note what marks it has.
-    fn replace_line(&mut self, index: usize, line: Line)
-        requires within { index + 1 ≤ length (contents self.old.tree.lines) }
-        requires numbers { NumbersBelow (length self.old.names.items) line.marks }
-        requires lines { AreLines (spliced index 1 (line ∷ []) (contents self.old.tree.lines)) }
-        requires counted { IsCounted (plus (count_of (contents self.old.tree.lines)) (count_of (line ∷ []))) }
-        ensures lines { contents self.new.tree.lines ≡ spliced index 1 (line ∷ []) (contents self.old.tree.lines) }
-        ensures room { KeepsRoom self.old.tree self.new.tree }
-        ensures numbers { length self.new.names.items ≡ length self.old.names.items }
-    {
-        let name = self.tree.select(index, &mut Steps::new());
-        write(&mut self.names, self.tree.line(name), None);
-        write(&mut self.names, &line, Some(name));
-        self.tree.replace_named(name, line, &mut Steps::new());
     }
 }
 
@@ -180,10 +162,19 @@ impl LineList for TreeLines {
         }
     }
 
+    // The line is looked for once, where a splice looks for it to forget what marks stood there, to put the line in, and
+    // to note what marks it has.
+    fn replace(&mut self, index: usize, line: Line) {
+        let name = self.tree.select(index, &mut Steps::new());
+        write(&mut self.names, self.tree.line(name), None);
+        write(&mut self.names, &line, Some(name));
+        self.tree.replace_named(name, line, &mut Steps::new());
+    }
+
     fn splice(&mut self, from: usize, count: usize, mut new: Vec<Line>) {
         if count == 1 && new.len() == 1 {
             let line = new.pop().unwrap();
-            self.replace_line(from, line);
+            self.replace(from, line);
             return;
         }
         let end = from + new.len();

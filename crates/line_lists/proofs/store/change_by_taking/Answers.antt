@@ -1,10 +1,10 @@
-use Rattle.line_lists.proofs.Common.{refl, Change}
-use Rattle.line_lists.proofs.MoveLaws.{taken-can, taken-new}
+use Rattle.line_lists.proofs.Common.{refl, PieceChange}
+use Rattle.line_lists.proofs.LineChangeLaws.{taken-can, taken-new}
 use Rattle.line_lists.proofs.store.change_by_taking.Goals as goal
 
 pub returns-clause-can : goal.returns-clause-can
 returns-clause-can c lines =
-    let change : Change = record {
+    let change : PieceChange = record {
       taken = c.args.numbers;
       pieces = c.new.result;
       growth = record { lines = 0; rows = 0 };
@@ -14,7 +14,7 @@ returns-clause-can c lines =
 
 pub returns-clause-new : goal.returns-clause-new
 returns-clause-new c lines =
-    let change : Change = record {
+    let change : PieceChange = record {
       taken = c.args.numbers;
       pieces = c.new.result;
       growth = record { lines = 0; rows = 0 };

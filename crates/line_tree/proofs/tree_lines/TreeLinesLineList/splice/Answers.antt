@@ -3,7 +3,6 @@ use Rattle.line_tree.proofs.Common.{LineContent, contents, AreLines, NumbersBelo
 use Rattle.line_tree.proofs.Common.{lines_without}
 use Rattle.line_tree.proofs.ListedLaws.{Comes, comes-below, comes-contents, comes-long, comes-others, end-fits}
 use Rattle.line_tree.proofs.ListedLaws.{fits-counted, gone-fits, some-left}
-use Rattle.line_tree.proofs.SpendingLaws.{keeps-room}
 use Rattle.line_tree.proofs.tree_lines.TreeLinesLineList.splice.Goals as goal
 
 pub overflow_add-end : goal.overflow_add-end
@@ -85,6 +84,6 @@ returns-then-len-eq1-clause-room c more rows has =
     let one : length c.args.new.items ≡ 1 = omega arith in
     let none : more_lines c.args.count c.args.new.items + more ≡ more = omega arith in
     let none_in : row_of c.args.count c.args.new.items + rows ≡ rows = omega arith in
-    keeps-room c.args.self.now.tree c.replace_line.new.self.tree more rows c.replace_line.ensures.room
+    c.replace.ensures.room more rows
     (subst (λ m. HasRoom c.args.self.now.tree m rows) none
     (subst (λ r. HasRoom c.args.self.now.tree (more_lines c.args.count c.args.new.items + more) r) none_in has))

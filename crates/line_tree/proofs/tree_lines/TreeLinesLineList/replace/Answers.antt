@@ -1,6 +1,7 @@
 use Rattle.line_tree.proofs.Common.{◌≡◌, length, vec_len, subst, sym, arith, AreLines, NumbersBelow}
 use Rattle.line_tree.proofs.OverLaws.{fits-one, over-below, over-contents, over-table}
-use Rattle.line_tree.proofs.tree_lines.TreeLines.replace_line.Goals as goal
+use Rattle.line_tree.proofs.SpendingLaws.{keeps-room}
+use Rattle.line_tree.proofs.tree_lines.TreeLinesLineList.replace.Goals as goal
 
 pub write-requires : goal.write-requires
 write-requires c = let list = c.args.self.now in let k = c.args.index in let p = c.select-name.result in
@@ -37,3 +38,7 @@ pub returns-clause-lines : goal.returns-clause-lines
 returns-clause-lines c = let list = c.args.self.now in let k = c.args.index in let p = c.select-name.result in
     over-contents list.tree.lines c.replace_named.new.self.lines k p c.line.result.now c.args.line c.requires.within
     (c.line.ensures k c.select-name.ensures.name) (c.replace_named.ensures.lines k c.select-name.ensures.name)
+
+pub returns-clause-room : goal.returns-clause-room
+returns-clause-room c more rows has =
+    keeps-room c.args.self.now.tree c.replace_named.new.self.tree more rows c.replace_named.ensures.room has

@@ -2,7 +2,7 @@ use Rattle.line_lists.proofs.Common.{length, sym, ap, ◌∙◌, arith, drafted_
 use Rattle.line_lists.proofs.PlaceRows.{length-cells}
 use Rattle.line_lists.proofs.StoreLaws.{some-text}
 use Rattle.std.specs.FinSet as set
-use Rattle.line_lists.proofs.store.change_by_owned.Goals as goal
+use Rattle.line_lists.proofs.store.pieces_by.Goals as goal
 
 pub make_steps-requires-clause-len : goal.make_steps-requires-clause-len
 make_steps-requires-clause-len g c =
