@@ -21,7 +21,7 @@ pub record AreKept (names : Names) : Type 0 where
   pub few : names.limit ≤ most_tags + 1
   pub selection : (at : ℕ) × (slice_get names.entries at ≡ Some (record { name = sel; number = 0 }))
 
--- where a tag goes from a place in an order: the neighbour is known, and a name that moves there stands in the order
+-- the index to which an order moves a tag from another one: the neighbour is known, and the names are in the new order
 pub record GoesTo (order : Order) (from : ℕ) (other : Option (List ℕ)) (tags : List Tag) (to : ℕ) : Type 0 where
   pub neighbour : IfSome other (λ o. is_tag o tags ≡ true)
   pub names : (name : List ℕ) → position (bytes_eq name) (names_of tags) ≡ Some from →

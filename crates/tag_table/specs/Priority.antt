@@ -26,7 +26,7 @@ lowered names name (Some other) =
 abbrev pub is_tag : List ℕ → List Tag → Bool
 is_tag name tags = list_any (bytes_eq name) (names_of tags)
 
--- the names are known, and the tags stand in the new order, each with its slot
+-- the names are known, and the tags are in the new order, each with its slot
 pub record IsOrdered (order : Order) (name : List ℕ) (other : Option (List ℕ)) (old new : List Tag) : Type 0 where
   pub known : is_tag name old ≡ true
   pub neighbour : IfSome other (λ o. is_tag o old ≡ true)
