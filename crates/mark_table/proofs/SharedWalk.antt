@@ -4,7 +4,8 @@ use Rattle.mark_table.proofs.Common.{nat_lt, nat_le, if◌then◌else◌, Option
 use Rattle.mark_table.proofs.Common.{slice_get, refl, sym, ap, ◌∙◌, subst, inl, inr, arith, cases_eq, nat_tests}
 use Rattle.mark_table.proofs.Common.{none-some, same_Some, slice_get_within, Place, Marks, marks_at, next_mark}
 use Rattle.mark_table.proofs.Common.{previous_mark, Stands, MarkView, Shown, earlier, shared_mark, shared_marks, IsAt}
-use Rattle.mark_table.proofs.Common.{IsFirstAt, IsLastAt, IsFirst, IsLast}
+use Rattle.mark_table.proofs.Common.{IsFirstAt, IsLastAt, IsFirst, IsLast, false_from_ne_true, le-ltb, lt-ltb}
+use Rattle.mark_table.proofs.Common.{ltb-false, ltb-true, true_from_ne_false}
 use Rattle.text_model.proofs.MarkOrderLaws.{next_mark-least, previous_mark-greatest}
 use Rattle.mark_table.proofs.StoreLaws.{place_of_mark_at, mark_told_at}
 use Rattle.std.specs.FinMap as finite
@@ -25,6 +26,10 @@ stands_either (y ∷ xs) ys x (zero, is) = inl (0, is)
 stands_either (y ∷ xs) ys x (suc at, is) =
     elim (stands_either xs ys x (at, is)) [ inl left ↦ inl (suc left.0, left.1) | inr right ↦ inr right ]
 
+pub stands_first : {A : Type 0} (x : A) (xs : List A) (y : A) → Stands (x ∷ xs) y → (x ≡ y) ⊎ Stands xs y
+stands_first x xs y (zero, is) = inl (same_Some x y is)
+stands_first x xs y (suc at, is) = inr (at, is)
+
 -- a mark that the store has at a place of the view
 pub record IsShared (view : MarkView) (marks : Marks) (numbers : List ℕ) (place : ℕ) (shown : Shown) (rank : ℕ) : Type 0
   where
@@ -43,30 +48,10 @@ in_view start end offset above below = grind (arith, nat_tests)
 view_of : (start end offset : ℕ) → (nat_le start offset && nat_le offset end) ≡ true → (start ≤ offset) × (offset ≤ end)
 view_of start end offset is = (grind (arith, nat_tests), grind (arith, nat_tests))
 
-pub one_shared : (view : MarkView) (rank : ℕ) (place : Place) → view.start ≤ place.offset → place.offset ≤ view.end →
+one_shared : (view : MarkView) (rank : ℕ) (place : Place) → view.start ≤ place.offset → place.offset ≤ view.end →
     shared_mark view rank (Some place) ≡ record { place = place.offset; rank = rank } ∷ []
 one_shared view rank place above below = ap (λ b. if b then record { place = place.offset; rank = rank } ∷ []
     else []) (in_view view.start view.end place.offset above below)
-
-pub shared-in : (view : MarkView) (marks : Marks) (rank : ℕ) (numbers : List ℕ) (at number : ℕ) (place : Place) →
-    slice_get numbers at ≡ Some number → finite.get marks number ≡ Some place → view.start ≤ place.offset →
-    place.offset ≤ view.end
-    → Stands (shared_marks view marks rank numbers) (record { place = place.offset; rank = rank + at })
-shared-in view marks rank [] at number place is has above below = absurd (none-some number is)
-shared-in view marks rank (n ∷ numbers) zero number place is has above below =
-    let own : shared_mark view rank (finite.get marks n) ≡ record { place = place.offset; rank = rank }
-    ∷ [] = ap (λ m. shared_mark view rank (finite.get marks m)) (same_Some n number is)
-    ∙ ap (shared_mark view rank) has ∙ one_shared view rank place above below in
-    stands_left (shared_mark view rank (finite.get marks n)) (shared_marks view marks (rank + 1) numbers) _
-    (subst (λ xs. Stands xs (record { place = place.offset; rank = rank + 0 })) (sym own) (
-      0,
-      ap (λ r. Some (record { place = place.offset; rank = r })) (let e : rank ≡ rank + 0 = omega arith in e),
-    ))
-shared-in view marks rank (n ∷ numbers) (suc at) number place is has above below =
-    stands_right (shared_mark view rank (finite.get marks n)) (shared_marks view marks (rank + 1) numbers) _
-    (subst (λ r. Stands (shared_marks view marks (rank + 1) numbers) (record { place = place.offset; rank = r }))
-    (let e : rank + 1 + at ≡ rank + suc at = omega arith in
-    e) (shared-in view marks (rank + 1) numbers at number place is has above below))
 
 pub one-out : (view : MarkView) (rank : ℕ) (found : Option Place) (shown : Shown) →
     Stands (shared_mark view rank found) shown → (place : Place) × (found ≡ Some place) × (place.offset ≡ shown.place)
@@ -88,41 +73,59 @@ one-out view rank (Some place) shown has = by (nat_le view.start place.offset &&
     by true inside (suc at, is) = absurd (none-some shown is)
     by false outside (at, is) = absurd (none-some shown is)
 
-pub shared-out : (view : MarkView) (marks : Marks) (rank : ℕ) (numbers : List ℕ) (shown : Shown) →
-    Stands (shared_marks view marks rank numbers) shown → (at : ℕ) × IsShared view marks numbers at shown rank
-shared-out view marks rank [] shown has = absurd (none-some shown has.1)
-shared-out view marks rank (n ∷ numbers) shown has = elim
-    (stands_either (shared_mark view rank (finite.get marks n)) (shared_marks view marks (rank + 1) numbers) shown has) [
+-- a shared mark is that of a number of the table, and the other way round
+pub number-out : (view : MarkView) (marks : Marks) (rank : ℕ) (numbers : List ℕ) (shown : Shown) →
+    Stands (shared_marks view marks rank numbers) shown → (at : ℕ) × (number : ℕ) × (slice_get numbers at ≡ Some number)
+    × Stands (shared_mark view (rank + at) (finite.get marks number)) shown
+number-out view marks rank [] shown has = absurd (none-some shown has.1)
+number-out view marks rank (n ∷ numbers) shown has =
+    elim (stands_either (shared_mark view rank (finite.get marks n)) (shared_marks view marks (rank + 1) numbers) shown
+    has) [
       | inl own ↦
-          let one = one-out view rank (finite.get marks n) shown own in (
-            0,
-            record {
-              number = n;
-              stands = one.0;
-              numbered = refl;
-              has = one.1;
-              here = one.2;
-              above = one.3;
-              below = one.4;
-              ranked = let e = one.5 in omega arith;
-            },
-          )
+          let same : rank ≡ rank + 0 = omega arith in
+          (0, n, refl, subst (λ r. Stands (shared_mark view r (finite.get marks n)) shown) same own)
       | inr other ↦
-          let rest = shared-out view marks (rank + 1) numbers shown other in
-          let s = rest.1 in (
+          let rest = number-out view marks (rank + 1) numbers shown other in
+          let same : rank + 1 + rest.0 ≡ rank + suc rest.0 = omega arith in (
             suc rest.0,
-            record {
-              number = s.number;
-              stands = s.stands;
-              numbered = s.numbered;
-              has = s.has;
-              here = s.here;
-              above = s.above;
-              below = s.below;
-              ranked = let e = s.ranked in omega arith;
-            },
+            rest.1,
+            rest.2,
+            subst (λ r. Stands (shared_mark view r (finite.get marks rest.1)) shown) same rest.3,
           )
     ]
+
+pub number-in : (view : MarkView) (marks : Marks) (rank : ℕ) (numbers : List ℕ) (at number : ℕ) (shown : Shown) →
+    slice_get numbers at ≡ Some number → Stands (shared_mark view (rank + at) (finite.get marks number)) shown
+    → Stands (shared_marks view marks rank numbers) shown
+number-in view marks rank [] at number shown is has = absurd (none-some number is)
+number-in view marks rank (n ∷ numbers) zero number shown is has =
+    let same : rank + 0 ≡ rank = omega arith in
+    stands_left (shared_mark view rank (finite.get marks n)) (shared_marks view marks (rank + 1) numbers) shown
+    (subst (λ r. Stands (shared_mark view r (finite.get marks n)) shown) same
+    (subst (λ m. Stands (shared_mark view (rank + 0) (finite.get marks m)) shown) (sym (same_Some n number is)) has))
+number-in view marks rank (n ∷ numbers) (suc at) number shown is has =
+    let same : rank + suc at ≡ rank + 1 + at = omega arith in
+    stands_right (shared_mark view rank (finite.get marks n)) (shared_marks view marks (rank + 1) numbers) shown
+    (number-in view marks (rank + 1) numbers at number shown is
+    (subst (λ r. Stands (shared_mark view r (finite.get marks number)) shown) same has))
+
+pub shared-out : (view : MarkView) (marks : Marks) (rank : ℕ) (numbers : List ℕ) (shown : Shown) →
+    Stands (shared_marks view marks rank numbers) shown → (at : ℕ) × IsShared view marks numbers at shown rank
+shared-out view marks rank numbers shown has =
+    let out = number-out view marks rank numbers shown has in
+    let one = one-out view (rank + out.0) (finite.get marks out.1) shown out.3 in (
+      out.0,
+      record {
+        number = out.1;
+        stands = one.0;
+        numbered = out.2;
+        has = one.1;
+        here = one.2;
+        above = one.3;
+        below = one.4;
+        ranked = one.5;
+      },
+    )
 
 -- tests of the order
 pub not_before_bound : (shown bound : Shown) → earlier shown bound ≡ false → bound.place ≤ shown.place
@@ -130,6 +133,12 @@ not_before_bound shown bound is = grind (arith, nat_tests)
 
 pub before_bound : (shown bound : Shown) → earlier shown bound ≡ true → shown.place ≤ bound.place
 before_bound shown bound is = grind (arith, nat_tests)
+
+pub earlier_place : (shown other : Shown) → shown.place < other.place → earlier shown other ≡ true
+earlier_place shown other less = grind (arith, nat_tests)
+
+pub by_rank : (shown other : Shown) → shown.place ≡ other.place → earlier shown other ≡ nat_lt shown.rank other.rank
+by_rank shown other same = grind (arith, nat_tests)
 
 behind_place : (shown other : Shown) → other.place < shown.place → earlier shown other ≡ false
 behind_place shown other behind = grind (arith, nat_tests)
@@ -148,26 +157,6 @@ behind_bound offset rank bound behind = grind (arith, nat_tests)
 ahead_of_bound : (offset rank len : ℕ) (bound : Shown) → offset < bound.place → rank < len →
     earlier (record { place = offset; rank = 2 + rank }) bound ≡ nat_lt rank len
 ahead_of_bound offset rank len bound ahead within = grind (arith, nat_tests)
-
-not_lt : (a b : ℕ) → nat_lt a b ≡ false → b ≤ a
-not_lt a b is = grind (arith, nat_tests)
-
-is_lt : (a b : ℕ) → nat_lt a b ≡ true → a < b
-is_lt a b is = grind (arith, nat_tests)
-
-lt_is : (a b : ℕ) → a < b → nat_lt a b ≡ true
-lt_is a b less = grind (arith, nat_tests)
-
-le_is : (a b : ℕ) → b ≤ a → nat_lt a b ≡ false
-le_is a b above = grind (arith, nat_tests)
-
-either : (b : Bool) → ¬ (b ≡ false) → b ≡ true
-either true h = refl
-either false h = absurd (h refl)
-
-neither : (b : Bool) → ¬ (b ≡ true) → b ≡ false
-neither false h = refl
-neither true h = absurd (h refl)
 
 module _ (view : MarkView) (marks : Marks) (numbers : List ℕ) (bound : Shown) where
   -- no shared mark that isn't before the bound stands before an offset
@@ -194,8 +183,10 @@ module _ (view : MarkView) (marks : Marks) (numbers : List ℕ) (bound : Shown) 
   there offset place (index, number, is, numbered) above below =
       let one = place_of_mark_at offset marks number (index, is) in
       let here = one.2 in
-      subst (λ o. Stands (shared_marks view marks 2 numbers) (record { place = o; rank = 2 + place })) here
-      (shared-in view marks 2 numbers place number.0 one.0 numbered one.1 (omega arith) (omega arith))
+      number-in view marks 2 numbers place number.0 (record { place = offset; rank = 2 + place }) numbered
+      (subst (λ xs. Stands xs (record { place = offset; rank = 2 + place })) (sym (ap (shared_mark view (2 + place)) one.1
+      ∙ one_shared view (2 + place) one.0 (omega arith) (omega arith)))
+      (0, ap (λ o. Some (record { place = o; rank = 2 + place })) here))
 
   pub Passed-start : Passed (max bound.place view.start)
   unfolding Passed
@@ -219,7 +210,7 @@ module _ (view : MarkView) (marks : Marks) (numbers : List ℕ) (bound : Shown) 
   unfolding Passed Turns
   IsFirst-found offset from place passed turns above below found = (
     there offset place found.1 above below,
-    turns place ∙ le_is place from found.0,
+    turns place ∙ le-ltb place from found.0,
     λ at shown is behind.
         let low = passed at shown is behind in
         elim (cases_eq shown.place offset) [
@@ -229,7 +220,7 @@ module _ (view : MarkView) (marks : Marks) (numbers : List ℕ) (bound : Shown) 
               let turn = sym (turns one.0)
               ∙ ap (λ (s : Shown). earlier s bound) (λ i. record { place = sym here i; rank = sym ranked i })
               ∙ behind in
-              let least = found.2 one.0 (not_lt one.0 from turn) one.1 in
+              let least = found.2 one.0 (ltb-false one.0 from turn) one.1 in
               one_place shown (record { place = offset; rank = 2 + place }) here (omega arith)
           | inr other ↦ behind_place shown (record { place = offset; rank = 2 + place }) (omega arith)
         ],
@@ -245,13 +236,13 @@ module _ (view : MarkView) (marks : Marks) (numbers : List ℕ) (bound : Shown) 
       let ranked = one.2 in
       let turn = sym (turns one.0) ∙ ap (λ (s : Shown). earlier s bound) (λ i.
       record { place = sym here i; rank = sym ranked i }) ∙ behind in
-      none one.0 (not_lt one.0 from turn) one.1 in
+      none one.0 (ltb-false one.0 from turn) one.1 in
       omega arith
 
   pub IsFirst-none : (offset : ℕ) → Passed offset → view.end < offset →
       IsFirst (shared_marks view marks 2 numbers) bound None
   unfolding Passed
-  IsFirst-none offset passed past = λ at shown is. either (earlier shown bound) (λ behind.
+  IsFirst-none offset passed past = λ at shown is. true_from_ne_false (earlier shown bound) (λ behind.
       let low = passed at shown is behind in
       let one = (shared-out view marks 2 numbers shown (at, is)).1 in
       let below = one.below in
@@ -280,7 +271,7 @@ module _ (view : MarkView) (marks : Marks) (numbers : List ℕ) (bound : Shown) 
   pub IsFirst-no_next : (offset : ℕ) → Passed offset → next_mark offset marks ≡ None →
       IsFirst (shared_marks view marks 2 numbers) bound None
   unfolding Passed
-  IsFirst-no_next offset passed is = λ at shown stands. either (earlier shown bound) (λ behind.
+  IsFirst-no_next offset passed is = λ at shown stands. true_from_ne_false (earlier shown bound) (λ behind.
       let least = reaches_next offset passed at shown stands behind in
       none-some least.0 (sym is ∙ least.1))
 
@@ -316,7 +307,7 @@ module _ (view : MarkView) (marks : Marks) (numbers : List ℕ) (bound : Shown) 
   unfolding Ahead TurnsBack
   IsLast-found offset upto place ahead turns above below found = (
     there offset place found.1 above below,
-    turns place (slice_get_within numbers place _ found.1.3) ∙ lt_is place upto found.0,
+    turns place (slice_get_within numbers place _ found.1.3) ∙ lt-ltb place upto found.0,
     λ at shown is before.
         let low = ahead at shown is before in
         elim (cases_eq shown.place offset) [
@@ -326,7 +317,7 @@ module _ (view : MarkView) (marks : Marks) (numbers : List ℕ) (bound : Shown) 
               let turn = sym (turns one.0 (slice_get_within numbers one.0 _ one.1.3))
               ∙ ap (λ (s : Shown). earlier s bound) (λ i. record { place = sym here i; rank = sym ranked i })
               ∙ before in
-              let greatest = found.2 one.0 (is_lt one.0 upto turn) one.1 in
+              let greatest = found.2 one.0 (ltb-true one.0 upto turn) one.1 in
               one_place (record { place = offset; rank = 2 + place }) shown (sym here) (omega arith)
           | inr other ↦ behind_place (record { place = offset; rank = 2 + place }) shown (omega arith)
         ],
@@ -341,7 +332,7 @@ module _ (view : MarkView) (marks : Marks) (numbers : List ℕ) (bound : Shown) 
       let ranked = one.2 in
       let turn = sym (turns one.0 (slice_get_within numbers one.0 _ one.1.3))
       ∙ ap (λ (s : Shown). earlier s bound) (λ i. record { place = sym here i; rank = sym ranked i }) ∙ before in
-      none one.0 (is_lt one.0 upto turn) one.1
+      none one.0 (ltb-true one.0 upto turn) one.1
 
   reaches_previous : (offset upto : ℕ) → Ahead offset → TurnsBack offset upto →
       IsLastAt (marks_at offset marks) numbers upto None → (at : ℕ) (shown : Shown)
@@ -370,14 +361,14 @@ module _ (view : MarkView) (marks : Marks) (numbers : List ℕ) (bound : Shown) 
       IsLastAt (marks_at offset marks) numbers upto None → previous_mark offset marks ≡ None →
       IsLast (shared_marks view marks 2 numbers) bound None
   unfolding Ahead
-  IsLast-no_previous offset upto ahead turns none is = λ at shown stands. neither (earlier shown bound) (λ before.
+  IsLast-no_previous offset upto ahead turns none is = λ at shown stands. false_from_ne_true (earlier shown bound) (λ before.
       let greatest = reaches_previous offset upto ahead turns none at shown stands before in
       none-some greatest.0 (sym is ∙ greatest.1))
 
   pub IsLast-none : (offset : ℕ) → Ahead offset → offset < view.start →
       IsLast (shared_marks view marks 2 numbers) bound None
   unfolding Ahead
-  IsLast-none offset ahead past = λ at shown is. neither (earlier shown bound) (λ before.
+  IsLast-none offset ahead past = λ at shown is. false_from_ne_true (earlier shown bound) (λ before.
       let low = ahead at shown is before in
       let one = (shared-out view marks 2 numbers shown (at, is)).1 in
       let above = one.above in

@@ -2,9 +2,8 @@
 use Rattle.mark_table.proofs.Common.{◌≡◌, ℕ, ◌+◌, ◌-◌, ◌<◌, ◌≤◌, min, Bool, true, false, cond, List, [], ◌∷◌, map, refl}
 use Rattle.mark_table.proofs.Common.{ap, ap₂, ◌∙◌, arith, find, nat_le, nat_lt, option_and_then, if◌then◌else◌, Option}
 use Rattle.mark_table.proofs.Common.{None, Some, ◌&&◌, ◌||◌, ◌==◌, nat_tests, AllByRecursion, fold, earlier, Shown}
-use Rattle.mark_table.proofs.Common.{origin_in, filter}
+use Rattle.mark_table.proofs.Common.{origin_in, filter, Origin}
 use Rattle.std.proofs.Common.{option_map}
-use Rattle.mark_table.specs.declared.order.Origin.{Origin}
 use Rattle.mark_table.specs.declared.order.Origin.TheVariants.{Mark as From, Place as Offset}
 use Rattle.mark_table.specs.Order as order
 

@@ -1,5 +1,5 @@
 use Rattle.mark_table.proofs.Common.{numbers_of}
-use Rattle.mark_table.proofs.OrderLaws.{IsFirst-usable}
+use Rattle.mark_table.proofs.RankLaws.{IsFirst-usable}
 use Rattle.mark_table.proofs.marks.MarkTable.first_from.Goals as goal
 
 pub returns : goal.returns

@@ -1,5 +1,5 @@
 use Rattle.mark_table.proofs.Common.{numbers_of}
-use Rattle.mark_table.proofs.OrderLaws.{IsLast-usable}
+use Rattle.mark_table.proofs.RankLaws.{IsLast-usable}
 use Rattle.mark_table.proofs.marks.MarkTable.last_before.Goals as goal
 
 pub returns : goal.returns

@@ -1,5 +1,5 @@
 use Rattle.mark_table.proofs.Common.{ap, sym, ◌∙◌, shown_mark, usable, numbers_of}
-use Rattle.mark_table.proofs.OrderLaws.{shown_insert, shown_current, shown_shared}
+use Rattle.mark_table.proofs.RankLaws.{shown_insert, shown_current, shown_shared}
 use Rattle.mark_table.proofs.marks.MarkTable.shown.Goals as goal
 
 pub returns-in-Insert-clause-mark : goal.returns-in-Insert-clause-mark
