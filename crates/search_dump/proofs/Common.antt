@@ -1,13 +1,14 @@
 -- The names that most proofs of this crate cite, passed on from one place. Declares nothing.
-pub use Rattle.std.proofs.Common.{[], ap₂, ℕ, ◌&&◌, ◌*◌, ◌++◌, ◌+◌, ◌-◌, ◌<◌, ◌==◌, ◌^◌, ◌||◌, ◌∙◌, ◌∷◌, ◌≡◌, ◌≢◌, ◌≤◌}
-pub use Rattle.std.proofs.Common.{◌⊎◌, Bool, List, None, Option, Some, ap, append-nil, append_assoc, arith, chars, cond}
+pub use Rattle.std.proofs.Common.{[], ap₂, ℕ, ◌&&◌, ◌++◌, ◌+◌, ◌-◌, ◌<◌, ◌==◌, ◌^◌, ◌||◌, ◌∙◌, ◌∷◌, ◌≡◌, ◌≢◌, ◌≤◌, ◌⊎◌}
+pub use Rattle.std.proofs.Common.{Bool, List, None, Option, Some, ap, append-nil, append_assoc, arith, chars, cond}
 pub use Rattle.std.proofs.Common.{decimal, drop, encode_utf8, encode_utf8_all, false, get_or, inl, inr, length, lt-ltb}
 pub use Rattle.std.proofs.Common.{map, max, min, refl, reverse, set, slice_index_or, string_bytes, subst, suc, sym}
 pub use Rattle.std.proofs.Common.{take, true, zero}
 pub use Rattle.index_grammar.specs.declared.indices.Direction.{Direction}
 pub use Rattle.index_grammar.specs.declared.indices.Direction.TheVariants.{Back, Forward}
+pub use Rattle.mark_table.proofs.SharedWalk.{before_bound, by_rank, earlier_place, one-out}
 pub use Rattle.mark_table.specs.Order.{earlier, first, mark_of, next_mark, next_shown, own_mark, own_place, rank_of}
-pub use Rattle.mark_table.specs.Order.{shared_mark, shared_marks, shown_mark}
+pub use Rattle.mark_table.specs.Order.{shared_mark}
 pub use Rattle.mark_table.specs.SharedMarks.{Mark, names_of, numbers_of}
 pub use Rattle.mark_table.specs.declared.order.Shown.{Shown}
 pub use Rattle.search_dump.specs.Ahead.{AreAhead, AreAt, AreBefore, AreKept, AreKnownTo, AreTurned, IsKnown, IsNearest}
@@ -42,8 +43,8 @@ pub use Rattle.search_dump.specs.declared.turns.Turn.{Turn}
 pub use Rattle.std.proofs.Math.Bool.{and-false, and-true, or-false, or-true}
 pub use Rattle.std.proofs.lemmas.Bool.{false≢true, true≢false, and_from, and_left, and_parts, and_right, cases_Bool}
 pub use Rattle.std.proofs.lemmas.Bool.{cases_eq, cases_lt, cases_order, cond-false, cond-true, eq-eqb}
-pub use Rattle.std.proofs.lemmas.Bool.{false_from_ne_true, le-leb, le-ltb, leb-true, lt-leb, ltb-true, ne_eqb}
-pub use Rattle.std.proofs.lemmas.Bool.{not-false, not-true, or_left, or_parts, or_right}
+pub use Rattle.std.proofs.lemmas.Bool.{false_from_ne_true, le-leb, le-ltb, leb-false, leb-true, lt-leb, ltb-true}
+pub use Rattle.std.proofs.lemmas.Bool.{ne_eqb, not-false, or_left, or_parts, or_right}
 pub use Rattle.std.proofs.lemmas.Grind.{flat_map-append, get_or_default_zero}
 pub use Rattle.std.proofs.lemmas.Iterator.{YieldsList-from_chars}
 pub use Rattle.std.proofs.lemmas.Iterator.Consumers.{YieldsList-end, YieldsList-turn, count_from_yields_List}
@@ -55,14 +56,15 @@ pub use Rattle.std.proofs.lemmas.List.{map_more, reverse-append, take-append-dro
 pub use Rattle.std.proofs.lemmas.List.{take_all, take_at, take_min, take_more}
 pub use Rattle.std.proofs.lemmas.List.Elements.{All-filter, All-head, All-tail, All-weaker, filter-append}
 pub use Rattle.std.proofs.lemmas.List.Folds.{find-append, list_any-append}
-pub use Rattle.std.proofs.lemmas.Option.{get_or_from_slice_get, none-some, same_Some, slice_get_within}
+pub use Rattle.std.proofs.lemmas.Option.{get_or_from_slice_get, none-some, same_Some, slice_get-get_or}
+pub use Rattle.std.proofs.lemmas.Option.{slice_get_within}
 pub use Rattle.std.proofs.lemmas.Result.{IfOk-weaker, on_ok_weaker}
 pub use Rattle.std.proofs.lemmas.Slice.Eq.{bytes_eq-Decides}
 pub use Rattle.std.proofs.lemmas.Str.{IsCharBoundary-from_rest, IsCharBoundary-start, IsUtf8-drop, IsUtf8-string_bytes}
 pub use Rattle.std.proofs.lemmas.Str.{IsUtf8-take, chars-IsAscii, chars-append, chars-nil, chars_from_encodes}
 pub use Rattle.std.proofs.lemmas.Str.{chars_past_char, encodes-append, encodes-chars, len_utf8_bounds, length-encode}
 pub use Rattle.std.proofs.lemmas.Str.{length-le-encodes}
-pub use Rattle.std.specs.List.{filter, find, flat_map, fold, list_any, prefix_len, range_with_len}
+pub use Rattle.std.specs.List.{filter, find, flat_map, list_any, prefix_len, range_with_len}
 pub use Rattle.std.specs.Option.{SomeIff, is_some, option_and_then, option_map, option_or}
 pub use Rattle.std.specs.Prelude.{if◌then◌else◌, IfOk, IfSome, IsTrue, MatchOption, OnOk, bytes_eq, codes, nat_le}
 pub use Rattle.std.specs.Prelude.{nat_lt, not, slice_get, slice_range, unwrap_or}
@@ -83,7 +85,7 @@ pub use Rattle.text_index.specs.Values.{column_of}
 pub use Rattle.text_index.specs.Views.{IsView, Part, shown, shown_flags}
 pub use Rattle.text_index.specs.declared.ranges.TagRange.{TagRange}
 pub use Rattle.text_model.specs.Changes.{flag_at, is_alike, next_change}
-pub use Rattle.text_model.specs.Content.{Marks, Slots, characters, flags, slot_sets}
+pub use Rattle.text_model.specs.Content.{Slots, characters, flags, slot_sets}
 pub use Rattle.text_model.specs.Lines.{line_of, line_start, lines}
 pub use Rattle.ucd_case.proofs.CaseFoldingLemmas.{simple_fold-ascii}
 pub use Rattle.ucd_case.specs.CaseFolding.{simple_fold}

@@ -1,17 +1,19 @@
--- The order of the marks that a widget can use.
-use Rattle.search_dump.proofs.Common.{outlook, Outlook, ◌≡◌, ◌≢◌, ℕ, zero, suc, inl, inr, ◌+◌, ◌-◌, ◌*◌, ◌<◌, ◌≤◌, ◌⊎◌}
-use Rattle.search_dump.proofs.Common.{◌&&◌, ◌==◌, max, min, Bool, true, false, cond, Option, None, Some, List, [], ◌∷◌}
-use Rattle.search_dump.proofs.Common.{◌++◌, length, refl, sym, ap, ap₂, subst, ◌∙◌, arith, MatchOption, codes, nat_le}
-use Rattle.search_dump.proofs.Common.{nat_lt, not, slice_get, filter, find, flat_map, fold, option_and_then, option_map}
-use Rattle.search_dump.proofs.Common.{and_parts, and_right, cases_Bool, cases_eq, cases_lt, cond-false, cond-true}
-use Rattle.search_dump.proofs.Common.{eq-eqb, false≢true, le-leb, leb-true, lt-ltb, ne_eqb, not-true, append-nil}
-use Rattle.search_dump.proofs.Common.{append_assoc, none-some, same_Some, slice_get_within, earlier, first, mark_of}
-use Rattle.search_dump.proofs.Common.{next_mark, next_shown, own_mark, own_place, rank_of, shared_mark, shared_marks}
-use Rattle.search_dump.proofs.Common.{shown_mark, names_of, numbers_of, Goes, goes_nowhere, goes_on, shown, Shown}
-use Rattle.search_dump.proofs.Common.{Marks, element, if_listed, mark_elements, mark_seen, seen_by, stands_at, Has}
-use Rattle.search_dump.proofs.Common.{IsMarkBehind, IsMarkFrom, is_before, mark_element, own_place_in, passed, place_in}
-use Rattle.search_dump.proofs.Common.{shared_place_in, usable_by}
+-- The marks at a place, listed in the order of the marks that a widget can use.
+use Rattle.search_dump.proofs.Common.{outlook, Outlook, ◌≡◌, ◌≢◌, ℕ, zero, suc, inl, inr, ◌+◌, ◌-◌, ◌<◌, ◌≤◌, ◌&&◌}
+use Rattle.search_dump.proofs.Common.{◌==◌, min, Bool, true, false, Option, None, Some, List, [], ◌∷◌, ◌++◌, length}
+use Rattle.search_dump.proofs.Common.{refl, sym, ap, ap₂, subst, ◌∙◌, arith, MatchOption, codes, nat_le, filter, find}
+use Rattle.search_dump.proofs.Common.{flat_map, option_and_then, option_map, and_right, cases_eq, cases_lt, cond-true}
+use Rattle.search_dump.proofs.Common.{get_or, eq-eqb, false≢true, le-leb, leb-true, lt-ltb, le-ltb, ne_eqb, append-nil}
+use Rattle.search_dump.proofs.Common.{append_assoc, none-some, same_Some, earlier, first, mark_of, next_mark}
+use Rattle.search_dump.proofs.Common.{next_shown, own_mark, own_place, rank_of, shared_mark, names_of, numbers_of, Goes}
+use Rattle.search_dump.proofs.Common.{goes_nowhere, goes_on, shown, Shown, element, if_listed, mark_elements, mark_seen}
+use Rattle.search_dump.proofs.Common.{seen_by, stands_at, Has, IsMarkBehind, IsMarkFrom, is_before, mark_element}
+use Rattle.search_dump.proofs.Common.{own_place_in, passed, place_in, shared_place_in, usable_by, if◌then◌else◌}
+use Rattle.search_dump.proofs.Common.{leb-false, slice_get-get_or, before_bound, by_rank, earlier_place, one-out}
 use Rattle.std.proofs.lemmas.Bool.Decides.{nat_tests}
+use Rattle.mark_table.proofs.OrderLaws.{first_is, in-turn, next_stands}
+use Rattle.mark_table.proofs.RankLaws.{IsRising, find_rank, of_rank, own_out, rising_above, shared_at-out, usable_out}
+use Rattle.mark_table.proofs.RankLaws.{usable_rising, usable_within}
 use Rattle.mark_table.specs.declared.order.MarkView.{MarkView}
 use Rattle.mark_table.specs.declared.order.Origin.{Origin}
 use Rattle.mark_table.specs.declared.order.Origin.TheVariants.{Mark as FromMark, Place as Offset}
@@ -20,398 +22,126 @@ use Rattle.text_model.specs.declared.places.Place.{Place}
 use Rattle.search_dump.proofs.DumpLaws.{flat-filter}
 use Rattle.std.specs.FinMap as finite
 
-asym : (a b : Shown) → earlier a b ≡ true → earlier b a ≡ false
-asym a b is = grind (arith, nat_tests)
-
-along : (a b c : Shown) → earlier a b ≡ false → earlier b c ≡ false → earlier a c ≡ false
-along a b c one two = grind (arith, nat_tests)
-
-not-itself : (a : Shown) → earlier a a ≡ false
-not-itself a = grind (arith, nat_tests)
-
-in-turn : (a b c : Shown) → earlier a b ≡ true → earlier b c ≡ true → earlier a c ≡ true
-in-turn a b c one two = grind (arith, nat_tests)
-
-pub earlier-place : (a b : Shown) → a.place < b.place → earlier a b ≡ true
-earlier-place a b less = grind (arith, nat_tests)
-
-pub not-behind : (a b : Shown) → earlier a b ≡ true → a.place ≤ b.place
-not-behind a b is = grind (arith, nat_tests)
-
-by-rank : (a b : Shown) → a.place ≡ b.place → earlier a b ≡ nat_lt a.rank b.rank
-by-rank a b same = grind (arith, nat_tests)
-
--- ---- the first of some marks
-
-abbrev least : Shown → List Shown → Shown
-least x xs = fold (λ a b. cond (earlier b a) b a) x xs
-
-least-has : (x : Shown) (xs : List Shown) → Has (x ∷ xs) (least x xs)
-least-has x [] = inl refl
-least-has x (y ∷ ys) =
-    elim (earlier y x) as (λ b. Has (x ∷ y ∷ ys) (least (cond b y x) ys)) [
-      | true ↦ inr (least-has y ys)
-      | false ↦ elim (least-has x ys) [ inl same ↦ inl same | inr later ↦ inr (inr later) ]
-    ]
-
-none-less : (x : Shown) (xs : List Shown) (y : Shown) → Has (x ∷ xs) y → earlier y (least x xs) ≡ false
-none-less x [] y (inl same) = subst (λ z. earlier z x ≡ false) same (not-itself x)
-none-less x [] y (inr none) = absurd none
-none-less x (z ∷ zs) y has =
-    elim (cases_Bool (earlier z x)) [
-      | inl before ↦
-          let same : least x (z ∷ zs) ≡ least z zs = ap (λ b. least (cond b z x) zs) before in
-          rw same (elim has [
-            | inl is-x ↦ subst (λ w. earlier w (least z zs) ≡ false) is-x
-                (along x z (least z zs) (asym z x before) (none-less z zs z (inl refl)))
-            | inr later ↦ none-less z zs y later
-          ])
-      | inr behind ↦
-          let same : least x (z ∷ zs) ≡ least x zs = ap (λ b. least (cond b z x) zs) behind in
-          rw same (elim has [
-            | inl is-x ↦ none-less x zs y (inl is-x)
-            | inr later ↦ elim later [
-              | inl is-z ↦ subst (λ w. earlier w (least x zs) ≡ false) is-z
-                  (along z x (least x zs) behind (none-less x zs x (inl refl)))
-              | inr rest ↦ none-less x zs y (inr rest)
-            ]
-          ])
-    ]
-
-first-has : (xs : List Shown) (mark : Shown) → first xs ≡ Some mark → Has xs mark
-first-has [] mark is = absurd (none-some mark is)
-first-has (x ∷ xs) mark is = subst (Has (x ∷ xs)) (same_Some (least x xs) mark is) (least-has x xs)
-
-first-least : (xs : List Shown) (mark y : Shown) → first xs ≡ Some mark → Has xs y → earlier y mark ≡ false
-first-least [] mark y is has = absurd has
-first-least (x ∷ xs) mark y is has =
-    subst (λ m. earlier y m ≡ false) (same_Some (least x xs) mark is) (none-less x xs y has)
-
-first-none : (xs : List Shown) (y : Shown) → first xs ≡ None → Has xs y → ⊥
-first-none [] y is has = has
-first-none (x ∷ xs) y is has = none-some (least x xs) (sym is)
-
-filter-yes : (test : Shown → Bool) (x : Shown) (xs : List Shown) → test x ≡ true →
-    filter test (x ∷ xs) ≡ x ∷ filter test xs
-filter-yes test x xs is = cond-true (test x) (x ∷ filter test xs) (filter test xs) is
-
-filter-no : (test : Shown → Bool) (x : Shown) (xs : List Shown) → test x ≡ false →
-    filter test (x ∷ xs) ≡ filter test xs
-filter-no test x xs is = cond-false (test x) (x ∷ filter test xs) (filter test xs) is
-
-has-filter : (test : Shown → Bool) (xs : List Shown) (y : Shown) → Has (filter test xs) y → Has xs y × (test y ≡ true)
-has-filter test [] y has = absurd has
-has-filter test (x ∷ xs) y has =
-    elim (cases_Bool (test x)) [
-      | inl is-it ↦
-          let there : Has (x ∷ filter test xs) y = subst (λ ys. Has ys y) (filter-yes test x xs is-it) has in
-          elim there [
-            | inl same ↦ (inl same, subst (λ z. test z ≡ true) same is-it)
-            | inr later ↦ let rest = has-filter test xs y later in (inr rest.0, rest.1)
-          ]
-      | inr is-not ↦
-          let rest = has-filter test xs y (subst (λ ys. Has ys y) (filter-no test x xs is-not) has) in
-          (inr rest.0, rest.1)
-    ]
-
-filter-has : (test : Shown → Bool) (xs : List Shown) (y : Shown) → Has xs y → test y ≡ true → Has (filter test xs) y
-filter-has test [] y has is = has
-filter-has test (x ∷ xs) y has is =
-    elim has [
-      | inl same ↦ subst (λ ys. Has ys y) (sym (filter-yes test x xs (ap test same ∙ is))) (inl same)
-      | inr later ↦
-          let rest = filter-has test xs y later is in
-          elim (cases_Bool (test x)) [
-            | inl is-it ↦ subst (λ ys. Has ys y) (sym (filter-yes test x xs is-it)) (inr rest)
-            | inr is-not ↦ subst (λ ys. Has ys y) (sym (filter-no test x xs is-not)) rest
-          ]
-    ]
-
 pub mark-from : (marks : List Shown) (place : ℕ) (found : Option Shown) → next_shown (Offset place) marks ≡ found →
     IsMarkFrom marks place found
-mark-from marks place None is = λ mark has.
-    elim (cases_lt mark.place place) [
-      | inl less ↦ less
-      | inr more ↦ absurd (first-none (filter (λ (shown : Shown). nat_le place shown.place) marks) mark is
-          (filter-has (λ (shown : Shown). nat_le place shown.place) marks mark has (le-leb place mark.place more)))
-    ]
+mark-from marks place None is =
+    let none = first_is (λ (shown : Shown). nat_le place shown.place) marks None is in
+    λ mark has. leb-false place mark.place (none has.0 mark has.1)
 mark-from marks place (Some found) is =
-    let test = λ (shown : Shown). nat_le place shown.place in
-    let there = has-filter test marks found (first-has (filter test marks) found is) in (
-      there.0,
-      leb-true place found.place there.1,
-      λ mark has above.
-          first-least (filter test marks) found mark is
-          (filter-has test marks mark has (le-leb place mark.place above)),
+    let best = first_is (λ (shown : Shown). nat_le place shown.place) marks (Some found) is in (
+      best.0,
+      leb-true place found.place best.1,
+      λ mark has above. best.2 has.0 mark has.1 (le-leb place mark.place above),
     )
 
 behind-is : (marks : List Shown) (before : Shown) (found : Option Shown) →
-    first (filter (λ shown. earlier before shown) marks) ≡ found → IsMarkBehind marks before found
-behind-is marks before None is = λ mark has.
-    elim (cases_Bool (earlier before mark)) [
-      | inl later ↦ absurd (first-none (filter (λ shown. earlier before shown) marks) mark is
-          (filter-has (λ shown. earlier before shown) marks mark has later))
-      | inr none ↦ none
-    ]
+    first (filter (earlier before) marks) ≡ found → IsMarkBehind marks before found
+behind-is marks before None is = λ mark has. first_is (earlier before) marks None is has.0 mark has.1
 behind-is marks before (Some found) is =
-    let test = λ (shown : Shown). earlier before shown in
-    let there = has-filter test marks found (first-has (filter test marks) found is) in (
-      there.0,
-      there.1,
-      λ mark has later. first-least (filter test marks) found mark is
-          (filter-has test marks mark has later),
-    )
+    let best = first_is (earlier before) marks (Some found) is in
+    (best.0, best.1, λ mark has. best.2 has.0 mark has.1)
 
--- ---- ranks rise
-
-abbrev pub IsRising : ℕ → List Shown → Type 0
-IsRising rank [] = Unit {0}
-IsRising rank (x ∷ xs) = (rank ≤ x.rank) × IsRising (suc x.rank) xs
-
-rising-above : (rank : ℕ) (xs : List Shown) (y : Shown) → IsRising rank xs → Has xs y → rank ≤ y.rank
-rising-above rank [] y rising has = absurd has
-rising-above rank (x ∷ xs) y rising has =
-    elim has [
-      | inl same ↦ subst (λ (z : Shown). rank ≤ z.rank) same rising.0
-      | inr later ↦ omega (arith, rising-above (suc x.rank) xs y rising.1 later, rising.0)
-    ]
-
-rising-less : (low rank : ℕ) (xs : List Shown) → low ≤ rank → IsRising rank xs → IsRising low xs
-rising-less low rank [] within rising = tt
-rising-less low rank (x ∷ xs) within rising = (omega (arith, rising.0), rising.1)
-
-find-rank : (rank : ℕ) (xs : List Shown) (mark : Shown) → IsRising rank xs → Has xs mark →
-    find (λ (shown : Shown). shown.rank == mark.rank) xs ≡ Some mark
-find-rank rank [] mark rising has = absurd has
-find-rank rank (x ∷ xs) mark rising has =
-    elim has [
-      | inl same ↦ cond-true (x.rank == mark.rank) (Some x) (find (λ (shown : Shown). shown.rank == mark.rank) xs)
-          (eq-eqb x.rank mark.rank (ap (λ (s : Shown). s.rank) same)) ∙ ap Some same
-      | inr later ↦
-          cond-false (x.rank == mark.rank) (Some x) (find (λ (shown : Shown). shown.rank == mark.rank) xs)
-          (ne_eqb x.rank mark.rank (λ same. omega (arith, rising-above (suc x.rank) xs mark rising.1 later)))
-          ∙ find-rank (suc x.rank) xs mark rising.1 later
-    ]
-
--- the next mark behind one that can be used
+-- the next mark after one that can be used
 pub mark-behind : (marks : List Shown) (mark : WidgetMark) (before : Shown) (found : Option Shown) → IsRising 0 marks →
     Has marks before → before.rank ≡ rank_of mark
     → next_shown (FromMark mark) marks ≡ found → IsMarkBehind marks before found
 mark-behind marks mark before found rising has same is =
     behind-is marks before found
     (sym (ap (option_and_then (λ from. first (filter (λ shown. earlier from shown) marks)))
-    (ap (λ n. find (λ (shown : Shown). shown.rank == n) marks) (sym same) ∙ find-rank 0 marks before rising has)) ∙ is)
+    (ap (λ n. find (λ (shown : Shown). shown.rank == n) marks) (sym same) ∙ find_rank 0 marks before rising has)) ∙ is)
 
--- ---- what the marks of a widget are
+-- ---- where the marks of a widget are
 
-rising-own : (view : MarkView) (rank : ℕ) (place : Option Place) (rest : List Shown) → IsRising (suc rank) rest →
-    IsRising rank (own_mark view rank place ++ rest)
-rising-own view rank None rest rising = rising-less rank (suc rank) rest (omega arith) rising
-rising-own view rank (Some place) rest rising = ((omega arith), rising)
+own-offset : (view : MarkView) (offset : ℕ) → view.start ≤ view.end →
+    min (offset - view.start) (view.end - view.start - 1) ≡ own_place view offset - view.start
+own-offset view offset ordered = grind (arith, nat_tests)
 
-rising-if : (test : Bool) (rank : ℕ) (shown : Shown) (rest : List Shown) → shown.rank ≡ rank →
-    IsRising (rank + 1) rest → IsRising rank (cond test (shown ∷ []) [] ++ rest)
-rising-if true rank shown rest same rising =
-    ((omega arith), rising-less (suc shown.rank) (rank + 1) rest (omega arith) rising)
-rising-if false rank shown rest same rising = rising-less rank (rank + 1) rest (omega arith) rising
+own-there : (view : MarkView) (rank : ℕ) (found : Option Place) (shown : Shown) → view.start ≤ view.end →
+    Has (own_mark view rank found) shown → own_place_in view.start view.end found ≡ Some (shown.place - view.start)
+own-there view rank found shown ordered has =
+    let out = own_out view rank found shown has in
+    let offset = out.0.offset in
+    let at : min (offset - view.start) (view.end - view.start - 1) ≡ own_place view offset - view.start =
+    own-offset view offset ordered in
+    ap (own_place_in view.start view.end) out.1 ∙ ap Some (at ∙ ap (λ n. n - view.start) out.2)
 
-rising-shared : (view : MarkView) (rank : ℕ) (place : Option Place) (rest : List Shown) → IsRising (rank + 1) rest →
-    IsRising rank (shared_mark view rank place ++ rest)
-rising-shared view rank None rest rising = rising-less rank (rank + 1) rest (omega arith) rising
-rising-shared view rank (Some place) rest rising = rising-if (nat_le view.start place.offset
-    && nat_le place.offset view.end) rank (record { place = place.offset; rank = rank }) rest refl rising
-
-rising-all : (view : MarkView) (places : Marks) (rank : ℕ) (numbers : List ℕ) →
-    IsRising rank (shared_marks view places rank numbers)
-rising-all view places rank [] = tt
-rising-all view places rank (number ∷ numbers) = rising-shared view rank (finite.get places number)
-    (shared_marks view places (rank + 1) numbers) (rising-all view places (rank + 1) numbers)
-
-module _ (outlook : Outlook) where
-  pub usable-rising : IsRising 0 (usable_by outlook)
-  usable-rising =
-      let view : MarkView = record { widget = record { 0 = outlook.widget }; start = outlook.part.start; end = outlook.part.end } in
-      rising-own view 0 (finite.get outlook.part.content.marks (2 * outlook.widget))
-      (own_mark view 1 (finite.get outlook.part.content.marks (2 * outlook.widget + 1))
-      ++ shared_marks view outlook.part.content.marks 2 (numbers_of outlook.marks))
-      (rising-own view 1 (finite.get outlook.part.content.marks (2 * outlook.widget + 1))
-      (shared_marks view outlook.part.content.marks 2 (numbers_of outlook.marks)) (rising-all view outlook.part.content.marks 2 (numbers_of outlook.marks)))
+shared-there : (view : MarkView) (rank : ℕ) (found : Option Place) (shown : Shown) →
+    Has (shared_mark view rank found) shown → shared_place_in view.start found ≡ Some (shown.place - view.start)
+shared-there view rank found shown has =
+    let out = one-out view rank found shown has in
+    let offset = out.0.offset in
+    let above : view.start ≤ offset = omega (arith, out.2, out.3) in
+    ap (shared_place_in view.start) out.1
+    ∙ cond-true (nat_le view.start offset) (Some (offset - view.start)) None (le-leb view.start offset above)
+    ∙ ap (λ n. Some (n - view.start)) out.2
 
 -- where one of them is shown
 pub record IsPlaced (outlook : Outlook) (shown : Shown) : Type 0 where
   pub place : place_in outlook (mark_of shown.rank) ≡ Some (shown.place - outlook.part.start)
   pub above : outlook.part.start ≤ shown.place
-  pub within : shown.place ≤ outlook.part.end
   pub known : shown.rank < 2 + length (numbers_of outlook.marks)
 
-has-append : (xs ys : List Shown) (mark : Shown) → Has (xs ++ ys) mark → Has xs mark ⊎ Has ys mark
-has-append [] ys mark has = inr has
-has-append (x ∷ xs) ys mark has =
-    elim has [
-      | inl same ↦ inl (inl same)
-      | inr later ↦ elim (has-append xs ys mark later)
-          [ inl left ↦ inl (inr left) | inr right ↦ inr right ]
-    ]
+module _ (outlook : Outlook) where
+  abbrev view : MarkView
+  view = record { widget = record { 0 = outlook.widget }; start = outlook.part.start; end = outlook.part.end }
 
-own-bounds : (view : MarkView) (offset : ℕ) → view.start ≤ view.end →
-    (view.start ≤ own_place view offset) × (own_place view offset ≤ view.end)
-    × (own_place view offset - view.start ≡ min (offset - view.start) (view.end - view.start - 1))
-own-bounds view offset ordered =
-    elim (cases_eq view.start view.end) [
-      | inl same ↦
-          let is : own_place view offset ≡ view.start = cond-true (view.start == view.end) view.start
-          (max view.start (min offset (view.end - 1))) (eq-eqb view.start view.end same) in
-          ((omega arith), (omega arith), (omega arith))
-      | inr other ↦
-          let is : own_place view offset ≡ max view.start (min offset (view.end - 1)) = cond-false
-          (view.start == view.end) view.start (max view.start (min offset (view.end - 1)))
-          (ne_eqb view.start view.end other) in
-          ((omega arith), (omega arith), (omega arith))
-    ]
+  pub usable-rising : IsRising 0 (usable_by outlook)
+  usable-rising = usable_rising view outlook.part.content.marks (numbers_of outlook.marks)
 
-own-has : (view : MarkView) (rank : ℕ) (found : Option Place) (shown : Shown) → view.start ≤ view.end →
-    Has (own_mark view rank found) shown
-    → (own_place_in view.start view.end found ≡ Some (shown.place - view.start)) × (view.start ≤ shown.place)
-    × (shown.place ≤ view.end) × (shown.rank ≡ rank)
-own-has view rank None shown ordered has = absurd has
-own-has view rank (Some place) shown ordered has =
-    elim has [
-      | inl same ↦
-          let bounds = own-bounds view place.offset ordered in
-          let at : own_place view place.offset ≡ shown.place = ap (λ (s : Shown). s.place) same in (
-            ap Some (sym bounds.2 ∙ ap (λ n. n - view.start) at),
-            (omega (arith, bounds.0)),
-            (omega (arith, bounds.1)),
-            sym (ap (λ (s : Shown). s.rank) same),
-          )
-      | inr none ↦ absurd none
-    ]
+  pub usable-placed : (shown : Shown) → outlook.part.start ≤ outlook.part.end → Has (usable_by outlook) shown →
+      IsPlaced outlook shown
+  usable-placed shown ordered has =
+      let within = usable_within view outlook.part.content.marks (numbers_of outlook.marks) shown ordered has in
+      record {
+        place = by shown.rank (usable_out view outlook.part.content.marks (numbers_of outlook.marks) shown has);
+        above = within.0;
+        known = within.2;
+      }
+    where
+      by : (rank : ℕ) → Has (of_rank view outlook.part.content.marks (numbers_of outlook.marks) rank) shown →
+          place_in outlook (mark_of rank) ≡ Some (shown.place - outlook.part.start)
+      by zero stands = own-there view 0 _ shown ordered stands
+      by (suc zero) stands = own-there view 1 _ shown ordered stands
+      by (suc (suc at)) stands =
+          let out = shared_at-out view outlook.part.content.marks (numbers_of outlook.marks) at shown stands in
+          ap (option_and_then (λ n. shared_place_in outlook.part.start (finite.get outlook.part.content.marks n))) out.1
+          ∙ shared-there view (2 + at) (finite.get outlook.part.content.marks out.0) shown out.2
 
-shared-if : (view : MarkView) (test : Bool) (rank : ℕ) (place : Place) (shown : Shown) →
-    test ≡ (nat_le view.start place.offset && nat_le place.offset view.end)
-    → Has (cond test (record { place = place.offset; rank = rank } ∷ []) []) shown
-    → (shared_place_in view.start (Some place) ≡ Some (shown.place - view.start)) × (view.start ≤ shown.place)
-    × (shown.place ≤ view.end) × (shown.rank ≡ rank)
-shared-if view true rank place shown is has =
-    elim has [
-      | inl same ↦
-          let parts = and_parts (nat_le view.start place.offset) (nat_le place.offset view.end) (sym is) in
-          let at : place.offset ≡ shown.place = ap (λ (s : Shown). s.place) same in
-          let above = leb-true view.start place.offset parts.0 in
-          let within = leb-true place.offset view.end parts.1 in (
-            cond-true (nat_le view.start place.offset) (Some (place.offset - view.start)) None parts.0
-                ∙ ap (λ n. Some (n - view.start)) at,
-            (omega arith),
-            (omega arith),
-            sym (ap (λ (s : Shown). s.rank) same),
-          )
-      | inr none ↦ absurd none
-    ]
-shared-if view false rank place shown is has = absurd has
-
-shared-has : (view : MarkView) (rank : ℕ) (found : Option Place) (shown : Shown) →
-    Has (shared_mark view rank found) shown
-    → (shared_place_in view.start found ≡ Some (shown.place - view.start)) × (view.start ≤ shown.place)
-    × (shown.place ≤ view.end) × (shown.rank ≡ rank)
-shared-has view rank None shown has = absurd has
-shared-has view rank (Some place) shown has =
-    shared-if view (nat_le view.start place.offset && nat_le place.offset view.end) rank place shown refl has
-
--- the shared mark of a rank
-record IsShared (view : MarkView) (places : Marks) (numbers : List ℕ) (rank : ℕ) (shown : Shown) : Type 0 where
-  at : ℕ
-  is : shown.rank ≡ rank + at
-  number : ℕ
-  there : slice_get numbers at ≡ Some number
-  place : shared_place_in view.start (finite.get places number) ≡ Some (shown.place - view.start)
-  above : view.start ≤ shown.place
-  within : shown.place ≤ view.end
-
-all-has : (view : MarkView) (places : Marks) (rank : ℕ) (numbers : List ℕ) (shown : Shown) →
-    Has (shared_marks view places rank numbers) shown → IsShared view places numbers rank shown
-all-has view places rank [] shown has = absurd has
-all-has view places rank (number ∷ numbers) shown has =
-    elim (has-append (shared_mark view rank (finite.get places number)) (shared_marks view places (rank + 1) numbers)
-    shown has) [
-      | inl here ↦
-          let is = shared-has view rank (finite.get places number) shown here in
-          record {
-            at = 0;
-            is = omega (arith, is.3);
-            number = number;
-            there = refl;
-            place = is.0;
-            above = is.1;
-            within = is.2;
-          }
-      | inr later ↦
-          let is = all-has view places (rank + 1) numbers shown later in
-          record {
-            at = suc is.at;
-            is = omega (arith, is.is);
-            number = is.number;
-            there = is.there;
-            place = is.place;
-            above = is.above;
-            within = is.within;
-          }
-    ]
-
-pub usable-placed : (outlook : Outlook) (shown : Shown) → outlook.part.start ≤ outlook.part.end →
-    Has (usable_by outlook) shown
-    → IsPlaced outlook shown
-usable-placed outlook shown ordered has =
-    let view : MarkView = record { widget = record { 0 = outlook.widget }; start = outlook.part.start; end = outlook.part.end } in
-    let numbers = numbers_of outlook.marks in
-    elim (has-append (own_mark view 0 (finite.get outlook.part.content.marks (2 * outlook.widget)))
-    (own_mark view 1 (finite.get outlook.part.content.marks (2 * outlook.widget + 1)) ++ shared_marks view outlook.part.content.marks 2 numbers) shown
-    has) [
-      | inl one ↦
-          let is = own-has view 0 (finite.get outlook.part.content.marks (2 * outlook.widget)) shown ordered one in
-          record {
-            place = ap (λ n. place_in outlook (mark_of n)) is.3 ∙ is.0;
-            above = is.1;
-            within = is.2;
-            known = omega (arith, is.3);
-          }
-      | inr later ↦
-          elim (has-append (own_mark view 1 (finite.get outlook.part.content.marks (2 * outlook.widget + 1)))
-          (shared_marks view outlook.part.content.marks 2 numbers) shown later) [
-            | inl two ↦
-                let is = own-has view 1 (finite.get outlook.part.content.marks (2 * outlook.widget + 1)) shown ordered two in
-                record {
-                  place = ap (λ n. place_in outlook (mark_of n)) is.3 ∙ is.0;
-                  above = is.1;
-                  within = is.2;
-                  known = omega (arith, is.3);
-                }
-            | inr rest ↦
-                let is = all-has view outlook.part.content.marks 2 numbers shown rest in
-                let two : 2 + is.at ≡ suc (suc is.at) = omega arith in
-                record {
-                  place = ap (λ n. place_in outlook (mark_of n)) (is.is ∙ two)
-                      ∙ ap (option_and_then (λ number. shared_place_in outlook.part.start (finite.get outlook.part.content.marks number)))
-                      is.there ∙ is.place;
-                  above = is.above;
-                  within = is.within;
-                  known = omega (arith, is.is, slice_get_within numbers is.at is.number is.there);
-                }
-          ]
-    ]
-
--- ---- the marks at a place, one behind the other
+-- ---- the marks at a place, one after the other
 
 flat-none : (each : Shown → List (List ℕ)) (xs : List Shown) → ((y : Shown) → Has xs y → each y ≡ []) →
     flat_map each xs ≡ []
 flat-none each [] none = refl
-flat-none each (x ∷ xs) none =
-    ap (λ ys. ys ++ flat_map each xs) (none x (inl refl)) ∙ flat-none each xs (λ y has. none y (inr has))
+flat-none each (x ∷ xs) none = ap (λ ys. ys ++ flat_map each xs) (none x (0, refl))
+    ∙ flat-none each xs (λ y has. none y (suc has.0, has.1))
 
-pub flat-agree : (first second : Shown → List (List ℕ)) (xs : List Shown) →
+flat-agree : (first second : Shown → List (List ℕ)) (xs : List Shown) →
     ((y : Shown) → Has xs y → first y ≡ second y) → flat_map first xs ≡ flat_map second xs
 flat-agree first second [] agree = refl
-flat-agree first second (x ∷ xs) agree =
-    ap₂ (λ a b. a ++ b) (agree x (inl refl)) (flat-agree first second xs (λ y has. agree y (inr has)))
+flat-agree first second (x ∷ xs) agree = ap₂ (λ a b. a ++ b) (agree x (0, refl))
+    (flat-agree first second xs (λ y has. agree y (suc has.0, has.1)))
+
+-- what is listed of one mark more
+flat-one : (old new : Shown → List (List ℕ)) (mark : Shown) (rank : ℕ) (xs : List Shown) → IsRising rank xs →
+    Has xs mark → ((y : Shown) → Has xs y → y.rank < mark.rank → new y ≡ old y)
+    → ((y : Shown) → Has xs y → mark.rank ≤ y.rank → old y ≡ [])
+    → ((y : Shown) → Has xs y → mark.rank < y.rank → new y ≡ [])
+    → flat_map new xs ≡ flat_map old xs ++ new mark
+flat-one old new mark rank [] rising has before none after = absurd (none-some mark has.1)
+flat-one old new mark rank (x ∷ xs) rising (zero, is) before none after =
+    let same = same_Some x mark is in
+    let ranked : x.rank ≡ mark.rank = ap (λ (s : Shown). s.rank) same in
+    let above : (y : Shown) → Has xs y → mark.rank < y.rank =
+    λ y has. omega (arith, ranked, rising_above (suc x.rank) xs y rising.1 has) in
+    ap₂ (λ a b. a ++ b) (ap new same) (flat-none new xs (λ y has. after y (suc has.0, has.1) (above y has)))
+    ∙ append-nil (new mark)
+    ∙ sym (ap₂ (λ a b. (a ++ b) ++ new mark) (none x (0, refl) (omega arith))
+    (flat-none old xs (λ y has. none y (suc has.0, has.1) (omega (arith, above y has)))))
+flat-one old new mark rank (x ∷ xs) rising (suc at, is) before none after =
+    ap₂ (λ a b. a ++ b) (before x (0, refl) (rising_above (suc x.rank) xs mark rising.1 (at, is)))
+    (flat-one old new mark (suc x.rank) xs rising.1 (at, is) (λ y has. before y (suc has.0, has.1))
+    (λ y has. none y (suc has.0, has.1)) (λ y has. after y (suc has.0, has.1)))
+    ∙ sym (append_assoc (old x) (flat_map old xs) (new mark))
 
 listed-none : (place : ℕ) (each : Shown → List (List ℕ)) (next : Option Shown) (mark : Shown) →
     (mark.place ≡ place → is_before next mark ≡ false)
@@ -451,7 +181,7 @@ passed-all marks place each None end = refl
 passed-all marks place each (Some next) end =
     flat-agree (λ mark. if_listed (mark.place == place && is_before (Some next) mark) (each mark)) (λ mark.
     if_listed (mark.place == place && is_before None mark) (each mark)) marks
-    (λ y has. listed-alike place each (Some next) None y (λ same. earlier-place y next (omega arith)))
+    (λ y has. listed-alike place each (Some next) None y (λ same. earlier_place y next (omega arith)))
 
 behind-passed : (next : Option Shown) (marks : List Shown) (mark y : Shown) → IsMarkBehind marks mark next →
     Has marks y → earlier mark y ≡ true → is_before next y ≡ false
@@ -468,70 +198,25 @@ itself-passed : (next : Option Shown) (marks : List Shown) (mark : Shown) → Is
 itself-passed None marks mark behind = refl
 itself-passed (Some next) marks mark behind = behind.1
 
-passed-step : (all : List Shown) (place : ℕ) (each : Shown → List (List ℕ)) (mark : Shown) (next : Option Shown) →
-    mark.place ≡ place → IsMarkBehind all mark next
-    → (rank : ℕ) (xs : List Shown) → IsRising rank xs → ((y : Shown) → Has xs y → Has all y) → Has xs mark
-    → passed place each next xs ≡ passed place each (Some mark) xs ++ each mark
-passed-step all place each mark next here behind rank [] rising within has = absurd has
-passed-step all place each mark next here behind rank (x ∷ xs) rising within has =
-    elim has [
-      | inl same ↦
-          let after = λ (y : Shown) (there : Has xs y). rising-above (suc x.rank) xs y rising.1 there in
-          let ranked : x.rank ≡ mark.rank = ap (λ (s : Shown). s.rank) same in
-          let at : x.place ≡ mark.place = ap (λ (s : Shown). s.place) same in
-          let later : (y : Shown) → Has xs y → y.place ≡ place → earlier mark y ≡ true =
-          λ y there level. by-rank mark y (here ∙ sym level) ∙ lt-ltb mark.rank y.rank (omega (arith, after y there)) in
-          let now : if_listed (x.place == place && is_before next x) (each x) ≡ each mark =
-          ap (λ s. if_listed (s.place == place && is_before next s) (each s)) same
-          ∙ ap₂ (λ a b. if_listed (a && b) (each mark)) (eq-eqb mark.place place here)
-          (itself-passed next all mark behind) in
-          let then-none : passed place each next xs
-          ≡ [] = flat-none (λ m. if_listed (m.place == place && is_before next m) (each m)) xs
-          (λ y there. listed-none place each next y (λ level.
-          behind-passed next all mark y behind (within y (inr there)) (later y there level))) in
-          let before-none : passed place each (Some mark) (x ∷ xs)
-          ≡ [] = flat-none (λ m. if_listed (m.place == place && is_before (Some mark) m) (each m)) (x ∷ xs)
-          (λ y there. listed-none place each (Some mark) y (λ level. elim there [
-            | inl is-x ↦ subst (λ z. earlier z mark ≡ false) (sym same ∙ is-x) (not-itself mark)
-            | inr rest ↦ asym mark y (later y rest level)
-          ])) in
-          ap₂ (λ a b. a ++ b) now then-none ∙ append-nil (each mark) ∙ sym (ap (λ ys. ys ++ each mark) before-none)
-      | inr later ↦
-          let above : x.rank < mark.rank = omega (arith, rising-above (suc x.rank) xs mark rising.1 later) in
-          let same : if_listed (x.place == place && is_before next x) (each x)
-          ≡ if_listed (x.place == place && is_before (Some mark) x) (each x) =
-          listed-alike place each next (Some mark) x (λ level.
-          let before : earlier x mark ≡ true = by-rank x mark (level ∙ sym here) ∙ lt-ltb x.rank mark.rank above in
-          before-passed next all mark x behind before ∙ sym before) in
-          ap₂ (λ a b. a ++ b) same (passed-step all place each mark next here behind (suc x.rank) xs rising.1
-          (λ y there. within y (inr there)) later)
-          ∙ sym (append_assoc (if_listed (x.place == place && is_before (Some mark) x) (each x))
-          (passed place each (Some mark) xs) (each mark))
-    ]
-
 -- one mark more
 passed-on : (marks : List Shown) (place : ℕ) (each : Shown → List (List ℕ)) (mark : Shown) (next : Option Shown) →
     IsRising 0 marks → Has marks mark → mark.place ≡ place → IsMarkBehind marks mark next
     → passed place each next marks ≡ passed place each (Some mark) marks ++ each mark
 passed-on marks place each mark next rising has here behind =
-    passed-step marks place each mark next here behind 0 marks rising (λ y there. there) has
+    let listed = λ (bound : Option Shown) (m : Shown). if_listed (m.place == place && is_before bound m) (each m) in
+    flat-one (listed (Some mark)) (listed next) mark 0 marks rising has
+    (λ y there less. listed-alike place each next (Some mark) y (λ level.
+    let before = by_rank y mark (level ∙ sym here) ∙ lt-ltb y.rank mark.rank less in
+    before-passed next marks mark y behind before ∙ sym before))
+    (λ y there above. listed-none place each (Some mark) y (λ level.
+    by_rank y mark (level ∙ sym here) ∙ le-ltb y.rank mark.rank above))
+    (λ y there above. listed-none place each next y (λ level.
+    behind-passed next marks mark y behind there
+    (by_rank mark y (here ∙ sym level) ∙ lt-ltb mark.rank y.rank above)))
+    ∙ ap (λ ys. passed place each (Some mark) marks ++ ys)
+    (ap₂ (λ a b. if_listed (a && b) (each mark)) (eq-eqb mark.place place here) (itself-passed next marks mark behind))
 
 -- ---- the next mark, with its place
-
-then-has : (marks : List Shown) (from : Option Shown) (shown : Shown) →
-    option_and_then (λ (before : Shown). first (filter (λ (other : Shown). earlier before other) marks)) from
-    ≡ Some shown → Has marks shown
-then-has marks None shown is = absurd (none-some shown is)
-then-has marks (Some before) shown is =
-    (has-filter (λ (other : Shown). earlier before other) marks shown
-    (first-has (filter (λ (other : Shown). earlier before other) marks) shown is)).0
-
-next-has : (origin : Origin) (marks : List Shown) (shown : Shown) → next_shown origin marks ≡ Some shown →
-    Has marks shown
-next-has (Offset place) marks shown is =
-    (has-filter (λ (other : Shown). nat_le place other.place) marks shown
-    (first-has (filter (λ (other : Shown). nat_le place other.place) marks) shown is)).0
-next-has (FromMark mark) marks shown is = then-has marks (shown_mark mark marks) shown is
 
 rank-mark : (rank : ℕ) → rank_of (mark_of rank) ≡ rank
 rank-mark zero = refl
@@ -546,31 +231,23 @@ pub record IsMarkOf (outlook : Outlook) (origin : Origin)
   pub above : outlook.part.start ≤ shown.place
   pub rank : rank_of mark ≡ shown.rank
 
-mark-given : (outlook : Outlook) (origin : Origin) (mark : WidgetMark)
-    (found : Option Shown) → outlook.part.start ≤ outlook.part.end
-    → next_shown origin (usable_by outlook) ≡ found →
-    Some mark ≡ option_map (λ (shown : Shown). mark_of shown.rank) found →
-    IsMarkOf outlook origin mark
-mark-given outlook origin mark None ordered next is = absurd (none-some mark (sym is))
-mark-given outlook origin mark (Some shown) ordered next is =
-    let same : mark ≡ mark_of shown.rank = same_Some mark (mark_of shown.rank) is in
-    let placed = usable-placed outlook shown ordered
-    (next-has origin (usable_by outlook) shown next) in
-    record {
-      shown = shown;
-      is = next;
-      place = ap (place_in outlook) same ∙ placed.place;
-      above = placed.above;
-      rank = ap rank_of same ∙ rank-mark shown.rank;
-    }
-
-pub mark-of : (outlook : Outlook) (origin : Origin) (mark : WidgetMark)
-    → outlook.part.start ≤ outlook.part.end
-    → Some mark ≡ next_mark origin (usable_by outlook) →
-    IsMarkOf outlook origin mark
-mark-of outlook origin mark ordered is =
-    mark-given outlook origin mark (next_shown origin (usable_by outlook))
-    ordered refl is
+pub mark-of : (outlook : Outlook) (origin : Origin) (mark : WidgetMark) → outlook.part.start ≤ outlook.part.end →
+    Some mark ≡ next_mark origin (usable_by outlook) → IsMarkOf outlook origin mark
+mark-of outlook origin mark ordered is = by (next_shown origin (usable_by outlook)) refl is
+  where
+    by : (found : Option Shown) → next_shown origin (usable_by outlook) ≡ found →
+        Some mark ≡ option_map (λ (shown : Shown). mark_of shown.rank) found → IsMarkOf outlook origin mark
+    by None next given = absurd (none-some mark (sym given))
+    by (Some shown) next given =
+        let same : mark ≡ mark_of shown.rank = same_Some mark (mark_of shown.rank) given in
+        let placed = usable-placed outlook shown ordered (next_stands origin (usable_by outlook) shown next) in
+        record {
+          shown = shown;
+          is = next;
+          place = ap (place_in outlook) same ∙ placed.place;
+          above = placed.above;
+          rank = ap rank_of same ∙ rank-mark shown.rank;
+        }
 
 pub mark-is : (outlook : Outlook) (origin : Origin) (mark : WidgetMark)
     (place : ℕ) (of : IsMarkOf outlook origin mark)
@@ -605,13 +282,13 @@ on-step : (marks : List Shown) (place : ℕ) (mark : Shown) (next : Option Shown
     IsMarkBehind marks mark next → IsMarkOn marks place next
 on-step marks place mark None here behind = λ other has.
     elim (cases_lt place other.place) [
-      | inl above ↦ absurd (false≢true (sym (behind other has) ∙ earlier-place mark other (omega arith)))
+      | inl above ↦ absurd (false≢true (sym (behind other has) ∙ earlier_place mark other (omega arith)))
       | inr within ↦ within
     ]
 on-step marks place mark (Some next) here behind = (
   behind.0,
-  omega (arith, not-behind mark next behind.1),
-  λ other has above. behind.2 other has (earlier-place mark other (omega arith)),
+  omega (arith, before_bound mark next behind.1),
+  λ other has above. behind.2 other has (earlier_place mark other (omega arith)),
 )
 
 on-above : (marks : List Shown) (place : ℕ) (next : Option Shown) → IsMarkOn marks place next →
@@ -620,61 +297,19 @@ on-above marks place None on end = tt
 on-above marks place (Some next) on end =
     elim (cases_eq next.place place) [ inl same ↦ absurd (end same) | inr other ↦ omega (arith, on.1) ]
 
--- how many are not before the next
-abbrev pub marks_left : List Shown → Option Shown → ℕ
-marks_left marks None = 0
-marks_left marks (Some next) = length (filter (λ (mark : Shown). not (earlier mark next)) marks)
+-- how many ranks are left at a place, from the next mark on
+abbrev pub marks_left : ℕ → ℕ → Option Shown → ℕ
+marks_left count place None = 0
+marks_left count place (Some next) = if next.place == place then count - next.rank else 0
 
-filter-less : (more fewer : Shown → Bool) (mark : Shown) (xs : List Shown) →
-    ((y : Shown) → fewer y ≡ true → more y ≡ true) → more mark ≡ true → fewer mark ≡ false
-    → (length (filter fewer xs) ≤ length (filter more xs))
-    × (Has xs mark → length (filter fewer xs) < length (filter more xs))
-filter-less more fewer mark [] each is none = (omega arith, λ has. absurd has)
-filter-less more fewer mark (x ∷ xs) each is none =
-    let rest = filter-less more fewer mark xs each is none in
-    elim (cases_Bool (fewer x)) [
-      | inl in-fewer ↦
-          let few = ap length (filter-yes fewer x xs in-fewer) in
-          let many = ap length (filter-yes more x xs (each x in-fewer)) in (
-            omega (arith, few, many, rest.0),
-            λ has. elim has [
-              | inl same ↦ absurd (false≢true (sym none ∙ sym (ap fewer same) ∙ in-fewer))
-              | inr later ↦ omega (arith, few, many, rest.1 later)
-            ],
-          )
-      | inr not-fewer ↦
-          let few = ap length (filter-no fewer x xs not-fewer) in
-          elim (cases_Bool (more x)) [
-            | inl in-more ↦
-                let many = ap length (filter-yes more x xs in-more) in
-                (omega (arith, few, many, rest.0), λ has. omega (arith, few, many, rest.0))
-            | inr not-more ↦
-                let many = ap length (filter-no more x xs not-more) in (
-                  omega (arith, few, many, rest.0),
-                  λ has. elim has [
-                    | inl same ↦ absurd (false≢true (sym not-more ∙ ap more same ∙ is))
-                    | inr later ↦ omega (arith, few, many, rest.1 later)
-                  ],
-                )
-          ]
-    ]
+left-fewer : (count place : ℕ) (marks : List Shown) (mark : Shown) (next : Option Shown) → mark.place ≡ place →
+    mark.rank < count → IsMarkBehind marks mark next → marks_left count place next < marks_left count place (Some mark)
+left-fewer count place marks mark None here known behind = grind (arith, nat_tests)
+left-fewer count place marks mark (Some next) here known behind =
+    let above = behind.1 in grind (arith, nat_tests)
 
-some-left : (marks : List Shown) (mark : Shown) → Has marks mark →
-    0 < length (filter (λ (other : Shown). not (earlier other mark)) marks)
-some-left marks mark has =
-    let less = (filter-less (λ (other : Shown). not (earlier other mark)) (λ (other : Shown). false) mark marks (λ y is.
-    absurd (false≢true is)) (ap not (not-itself mark)) refl).1 has in omega arith
-
-left-fewer : (marks : List Shown) (mark : Shown) (next : Option Shown) → Has marks mark →
-    IsMarkBehind marks mark next → marks_left marks next < marks_left marks (Some mark)
-left-fewer marks mark None has behind = some-left marks mark has
-left-fewer marks mark (Some next) has behind =
-    (filter-less (λ (other : Shown). not (earlier other mark)) (λ (other : Shown). not (earlier other next)) mark marks
-    (λ y is. elim (cases_Bool (earlier y mark)) [
-      | inl before ↦ absurd (false≢true (sym (not-true (earlier y next) is) ∙ in-turn y mark next before behind.1))
-      | inr not-before ↦ ap not not-before
-    ])
-    (ap not (not-itself mark)) (ap not behind.1)).1 has
+same-place : (place start at : ℕ) → start ≤ place → (place - start == at) ≡ (place == start + at && true)
+same-place place start at above = grind (arith, nat_tests)
 
 -- all the marks at a place
 marks-are : (outlook : Outlook) (place : ℕ) →
@@ -684,20 +319,14 @@ marks-are : (outlook : Outlook) (place : ℕ) →
 marks-are outlook place ordered =
     let all = usable_by outlook in
     let each = mark_element (shown outlook.part) (names_of outlook.marks) place in
-    flat-agree (λ mark. if_listed (mark.place == outlook.part.start + place && is_before None mark) (each mark)) (λ (mark : Shown).
-    if_listed (mark.place - outlook.part.start == place) (each mark)) all
-    (λ mark has.
-    let above = (usable-placed outlook mark ordered has).above in
-    elim (cases_eq mark.place (outlook.part.start + place)) [
-      | inl same ↦ ap (λ b. if_listed (b && true) (each mark)) (eq-eqb mark.place (outlook.part.start + place) same)
-          ∙ sym (ap (λ b. if_listed b (each mark)) (eq-eqb (mark.place - outlook.part.start) place (omega arith)))
-      | inr other ↦
-          ap (λ b. if_listed (b && true) (each mark)) (ne_eqb mark.place (outlook.part.start + place) other)
-          ∙ sym (ap (λ b. if_listed b (each mark)) (ne_eqb (mark.place - outlook.part.start) place (λ same. other (omega arith))))
-    ])
-    ∙ sym (flat-filter (λ mark. element (codes "mark") (shown outlook.part) place mark.name) (stands_at place)
-    (mark_seen outlook.marks outlook.part.start) (λ (mark : Shown). if_listed (mark.place - outlook.part.start == place) (each mark))
-    (record { place = 0; rank = 0 }) all (λ at within. refl))
+    let none : Shown = record { place = 0; rank = 0 } in
+    sym (flat-filter (λ mark. element (codes "mark") (shown outlook.part) place mark.name) (stands_at place)
+    (mark_seen outlook.marks outlook.part.start) (λ (mark : Shown).
+    if_listed (mark.place == outlook.part.start + place && is_before None mark) (each mark)) none all
+    (λ at within.
+    let mark = get_or all at none in
+    let placed = usable-placed outlook mark ordered (at, slice_get-get_or all at none within) in
+    ap (λ b. if_listed b (each mark)) (same-place mark.place outlook.part.start place placed.above)))
 
 listed-on : (listed : Bool) (old between new : List ℕ) (some more all : List (List ℕ)) → all ≡ some ++ more →
     Goes old between (if_listed listed some) → Goes between new (if_listed listed more)
@@ -725,7 +354,7 @@ goes-all outlook place listed old now next ordered above goes =
     (mark_element (shown outlook.part) (names_of outlook.marks) place) next above
     ∙ marks-are outlook place ordered) goes
 
--- what is listed of the marks at a place is what stands before the next one
+-- what is listed of the marks at a place is what is before the next one
 pub record AreListed (outlook : Outlook) (place : ℕ) (listed : Bool)
     (old now : List ℕ) (next : Option Shown) : Type 0 where
   pub goes : Goes old now (if_listed listed (passed (outlook.part.start + place)
@@ -763,14 +392,22 @@ module _ {outlook : Outlook} {place : ℕ} {listed : Bool} {old now : List ℕ}
         on = on-step all at mark next here behind;
       }
 
-  pub marks-fewer : {mark : Shown} (next : Option Shown) → before ≡ Some mark →
-      IsMarkBehind (usable_by outlook) mark next
-      → marks_left (usable_by outlook) next
-      < marks_left (usable_by outlook) before
-  marks-fewer {mark} next is behind =
+  pub marks-fewer : {mark : Shown} (next : Option Shown) → outlook.part.start ≤ outlook.part.end → before ≡ Some mark →
+      mark.place ≡ outlook.part.start + place → IsMarkBehind (usable_by outlook) mark next
+      → marks_left (2 + length (numbers_of outlook.marks)) (outlook.part.start + place) next
+      < marks_left (2 + length (numbers_of outlook.marks)) (outlook.part.start + place) before
+  marks-fewer {mark} next ordered is here behind =
       let all = usable_by outlook in
-      subst (λ o. marks_left all next < marks_left all o) (sym is)
-      (left-fewer all mark next (subst (IsMarkOn all (outlook.part.start + place)) is are.on).0 behind)
+      let at = outlook.part.start + place in
+      let count = 2 + length (numbers_of outlook.marks) in
+      let placed = usable-placed outlook mark ordered (subst (IsMarkOn all at) is are.on).0 in
+      subst (λ o. marks_left count at next < marks_left count at o) (sym is)
+      (left-fewer count at all mark next here placed.known behind)
+
+  pub marks-past : before ≡ None → IsMarkFrom (usable_by outlook) (outlook.part.start + place + 1) None
+  marks-past is =
+      let on = subst (IsMarkOn (usable_by outlook) (outlook.part.start + place)) is are.on in
+      λ mark has. omega (arith, on mark has)
 
   pub marks-done : outlook.part.start ≤ outlook.part.end → MatchOption before (Unit {0}) (λ m. m.place ≢ outlook.part.start + place) →
       Goes old now (if_listed listed (mark_elements (seen_by outlook) place))

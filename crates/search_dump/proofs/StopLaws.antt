@@ -11,28 +11,24 @@ use Rattle.search_dump.proofs.Common.{if_listed, is_cut, mark_elements, mark_see
 use Rattle.search_dump.proofs.Common.{tag_seen, tagoff_elements, tagon_elements, text_elements, Has, IsMarkFrom}
 use Rattle.search_dump.proofs.Common.{shown_of, usable_by, places, FailsBetween, IsNextStop, IsStop, has_mark_at}
 use Rattle.search_dump.proofs.Common.{has_tag_at, stop_at_mark, stops_at_marks, stops_at_tags, tag_stops, Listed}
-use Rattle.search_dump.proofs.Common.{append_assoc, append-nil}
+use Rattle.search_dump.proofs.Common.{append_assoc, append-nil, earlier_place, get_or_from_slice_get, slice_get-get_or}
+use Rattle.search_dump.proofs.Common.{slice_get_within}
 use Rattle.search_dump.proofs.DumpLaws.{begins-is}
 use Rattle.search_dump.specs.declared.dumped_marks.Marked.{Marked}
-use Rattle.search_dump.proofs.MarkOrderLaws.{earlier-place, usable-placed}
+use Rattle.search_dump.proofs.MarkOrderLaws.{usable-placed}
 use Rattle.search_dump.proofs.PlaceLaws.{places-none, places-split}
-use Rattle.search_dump.proofs.TagStops.{any-map}
+use Rattle.search_dump.proofs.TagStops.{any-map, none-of, one-of}
 
 -- ---- marks
 
 any-none : (test : Shown → Bool) (xs : List Shown) → ((y : Shown) → Has xs y → test y ≡ false) →
     list_any test xs ≡ false
-any-none test [] none = refl
-any-none test (x ∷ xs) none =
-    ap (λ b. b || list_any test xs) (none x (inl refl)) ∙ any-none test xs (λ y has. none y (inr has))
+any-none test xs none =
+    none-of test (record { place = 0; rank = 0 }) xs (λ at within. none _ (at, slice_get-get_or xs at _ within))
 
 any-some : (test : Shown → Bool) (xs : List Shown) (y : Shown) → Has xs y → test y ≡ true → list_any test xs ≡ true
-any-some test [] y has is = absurd has
-any-some test (x ∷ xs) y has is =
-    elim has [
-      | inl same ↦ or_left (test x) (list_any test xs) (ap test same ∙ is)
-      | inr later ↦ or_right (test x) (list_any test xs) (any-some test xs y later is)
-    ]
+any-some test xs y has is = one-of test y xs has.0 (slice_get_within xs has.0 y has.1)
+    (ap test (get_or_from_slice_get xs has.0 y y has.1) ∙ is)
 
 -- the first mark from a place on is that from a later one too, if it doesn't stand before it
 pub mark-on : (marks : List Shown) (place later : ℕ) (first : Option Shown) → IsMarkFrom marks place first →
@@ -65,7 +61,7 @@ no-mark outlook place k (Some mark) ordered from above within =
     ∙ any-none (λ (other : Shown). other.place - outlook.part.start == k) (usable_by outlook) (λ y has.
     ne_eqb (y.place - outlook.part.start) k (λ same.
     let low = (usable-placed outlook y ordered has).above in
-    false≢true (sym (from.2 y has (omega arith)) ∙ earlier-place y (shown_of outlook.part.start mark) (omega arith))))
+    false≢true (sym (from.2 y has (omega arith)) ∙ earlier_place y (shown_of outlook.part.start mark) (omega arith))))
 
 -- where a mark stops it
 stop-bounds : (tag stop : ℕ) (mark : Option Marked) → stop ≡ stop_at_mark tag mark →

@@ -16,13 +16,13 @@ pub any-map : {A B : Type 0} (test : B → Bool) (f : A → B) (xs : List A) →
 any-map test f [] = refl
 any-map test f (x ∷ xs) = ap (λ b. test (f x) || b) (any-map test f xs)
 
-none-of : {A : Type 0} (test : A → Bool) (d : A) (xs : List A) →
+pub none-of : {A : Type 0} (test : A → Bool) (d : A) (xs : List A) →
     ((at : ℕ) → at < length xs → test (get_or xs at d) ≡ false) → list_any test xs ≡ false
 none-of test d [] none = refl
 none-of test d (x ∷ xs) none = ap (λ b. b || list_any test xs) (none 0 (omega arith))
     ∙ none-of test d xs (λ at within. none (suc at) (omega arith))
 
-one-of : {A : Type 0} (test : A → Bool) (d : A) (xs : List A) (at : ℕ) → at < length xs → test (get_or xs at d) ≡ true →
+pub one-of : {A : Type 0} (test : A → Bool) (d : A) (xs : List A) (at : ℕ) → at < length xs → test (get_or xs at d) ≡ true →
     list_any test xs ≡ true
 one-of test d [] at within is = absurd (omega arith)
 one-of test d (x ∷ xs) zero within is = or_left (test x) (list_any test xs) is

@@ -1,6 +1,6 @@
 -- The marks that a widget can use, from a place on.
-use Rattle.std.specs.Prelude.{codes, ◌≡◌, ℕ, ◌+◌, ◌-◌, ◌*◌, ◌<◌, ◌≤◌, ◌⊎◌, ◌==◌, ◌&&◌, nat_le, min, Bool, true, false}
-use Rattle.std.specs.Prelude.{List, [], ◌∷◌, Option, None, Some, MatchOption, slice_get, if◌then◌else◌}
+use Rattle.std.specs.Prelude.{codes, ◌≡◌, ℕ, ◌+◌, ◌-◌, ◌*◌, ◌<◌, ◌≤◌, ◌==◌, ◌&&◌, nat_le, min, Bool, true, false}
+use Rattle.std.specs.Prelude.{List, Option, None, Some, MatchOption, slice_get, if◌then◌else◌}
 use Rattle.std.specs.FinMap as finite
 use Rattle.std.specs.List.{flat_map}
 use Rattle.std.specs.Option.{option_and_then, option_map}
@@ -15,8 +15,7 @@ use Rattle.search_dump.specs.declared.dumped_marks.Marked.{Marked}
 
 -- one of some marks
 abbrev pub Has : List Shown → Shown → Type 0
-Has [] mark = ⊥
-Has (other ∷ marks) mark = (other ≡ mark) ⊎ Has marks mark
+Has marks mark = (at : ℕ) × (slice_get marks at ≡ Some mark)
 
 -- a mark of a view, as it is ordered
 abbrev pub shown_of : ℕ → Marked → Shown
@@ -39,7 +38,7 @@ place_in outlook (Shared at) = option_and_then (λ number.
     shared_place_in outlook.part.start (finite.get outlook.part.content.marks number))
     (slice_get (numbers_of outlook.marks) at)
 
--- the first of some marks at a place or behind it
+-- the first of some marks at a place or after it
 abbrev pub IsMarkFrom : List Shown → ℕ → Option Shown → Type 0
 IsMarkFrom marks place first =
     MatchOption first ((mark : Shown) → Has marks mark → mark.place < place)
@@ -51,14 +50,14 @@ abbrev pub IsFirstMark : Outlook → ℕ → Option Marked → Type 0
 IsFirstMark outlook offset first =
     IsMarkFrom (usable_by outlook) offset (option_map (shown_of outlook.part.start) first)
 
--- the first behind another mark
+-- the first after another mark
 abbrev pub IsMarkBehind : List Shown → Shown → Option Shown → Type 0
 IsMarkBehind marks before first =
     MatchOption first ((mark : Shown) → Has marks mark → earlier before mark ≡ false)
     (λ found. Has marks found × (earlier before found ≡ true)
     × ((mark : Shown) → Has marks mark → earlier before mark ≡ true → earlier mark found ≡ false))
 
--- what is listed of the marks at a place, and of those that stand before another one
+-- what is listed of the marks at a place, and of those that are before another one
 abbrev pub is_before : Option Shown → Shown → Bool
 is_before None mark = true
 is_before (Some bound) mark = earlier mark bound

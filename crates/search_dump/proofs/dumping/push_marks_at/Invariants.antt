@@ -1,4 +1,4 @@
-use Rattle.search_dump.proofs.Common.{outlook, usable_by, string_bytes, option_map, shown_of}
+use Rattle.search_dump.proofs.Common.{◌+◌, length, numbers_of, outlook, string_bytes, option_map, shown_of}
 use Rattle.search_dump.proofs.MarkOrderLaws.{AreListed, marks_left}
 use Rattle.search_dump.proofs.dumping.push_marks_at.Given as goal
 
@@ -10,5 +10,6 @@ invariant-loop-next g l =
 
 abbrev pub decreases-loop-next : goal.decreases-loop-next
 decreases-loop-next g l =
-    marks_left (usable_by (outlook l.sight))
-    (option_map (shown_of l.sight.view.now.start) l.next)
+    let view = l.sight.view.now in
+    marks_left (2 + length (numbers_of (outlook l.sight).marks)) (view.start + l.spot.place)
+    (option_map (shown_of view.start) l.next)
