@@ -6,7 +6,8 @@ use Rattle.index_grammar.proofs.Common.{nat_tests, Decides-ltb, false≢true, ta
 use Rattle.index_grammar.proofs.Common.{prefix_len-le-length, list_all-append, encodes-chars, encode_ascii}
 use Rattle.index_grammar.proofs.Common.{chars-append, chars-nil, chars-IsAscii, IsUtf8-take, IsUtf8-from_ascii}
 use Rattle.index_grammar.proofs.Common.{IsCharBoundary-before_ascii, is_break, closes, place_base, place_of, of_length}
-use Rattle.index_grammar.proofs.Common.{saturated_base, read_of, Base, Option, Some, None}
+use Rattle.index_grammar.proofs.Common.{saturated_base, read_of, Base, Option, Some, None, length-drop, ◌-◌}
+use Rattle.index_grammar.proofs.Common.{if◌then◌else◌, IsClosed, with_rest}
 use lib.Utf8.{encode}
 use Rattle.index_grammar.proofs.LowLaws.{ascii_of}
 use Rattle.index_grammar.proofs.PlaceLaws.{place_of-chars}
@@ -142,3 +143,68 @@ place-read bytes end found text is found_is =
     (place_of (take end bytes)) found
     refl (take-chars bytes end text boundary) (drop-chars bytes end text boundary)
     (place_of-chars (take end bytes) (IsUtf8-take bytes end text boundary)) found_is (count-front bytes end text is)
+
+-- the bytes before the first blank or sign, closed by the others
+pub front-closed : (text bytes : List ℕ) → text ≡ bytes →
+    IsClosed text (take (prefix_len inside bytes) bytes) (drop (prefix_len inside bytes) bytes)
+front-closed text bytes same = record {
+  whole = same ∙ sym (take-append-drop (prefix_len inside bytes) bytes);
+  unbroken = inside-front bytes;
+  closed = closes-rest bytes;
+}
+
+-- what is read of a word by its bytes
+abbrev pub read_front : List ℕ → Option (Base × List ℕ)
+read_front bytes = with_rest (drop (prefix_len inside bytes) bytes)
+    (option_map saturated_base (place_of (take (prefix_len inside bytes) bytes)))
+
+pub read-closed : (text bytes rest : List ℕ) (found : Base) → text ≡ bytes → true ≡ closes rest →
+    ((front behind : List ℕ) → IsClosed text front behind → (if closes rest then Some (found, rest) else None)
+    ≡ with_rest behind (option_map saturated_base (place_of front))) → Some (found, rest) ≡ read_front bytes
+read-closed text bytes rest found same closed reads =
+    ap (λ b. if b then Some (found, rest) else None) closed
+    ∙ reads (take (prefix_len inside bytes) bytes) (drop (prefix_len inside bytes) bytes) (front-closed text bytes same)
+
+rest-none : (rest other : List ℕ) (found : Option Base) → None ≡ with_rest rest found → with_rest other found ≡ None
+rest-none rest other None none = refl
+rest-none rest other (Some base) none = absurd (let h : None ≡ with_rest rest (Some base) = none in cc)
+
+rest-some : (rest other behind : List ℕ) (found : Option Base) (known : Base) →
+    with_rest behind (Some known) ≡ with_rest rest found
+    → (behind ≡ rest) × (with_rest other found ≡ with_rest other (Some known))
+rest-some rest other behind None known is =
+    absurd (let h : with_rest behind (Some known) ≡ with_rest rest None = is in cc)
+rest-some rest other behind (Some base) known is =
+    let first : Some known ≡ Some base = ap (option_map (λ (p : Base × List ℕ). p.0)) is in
+    let second : Some behind ≡ Some rest = ap (option_map (λ (p : Base × List ℕ). p.1)) is in
+    (cc, ap (with_rest other) (sym first))
+
+pub place-none : (bytes : List ℕ) → IsUtf8 bytes → None ≡ read_front bytes
+    → read_of (chars bytes) (place_base (chars bytes)) ≡ None
+place-none bytes text none =
+    let count = prefix_len inside bytes in
+    let known = option_map saturated_base (place_of (take count bytes)) in
+    place-read bytes count known text refl refl
+    ∙ rest-none (drop count bytes) (chars (drop count bytes)) known none
+
+pub place-found : (bytes rest : List ℕ) (found : Base) → IsUtf8 bytes → Some (found, rest) ≡ read_front bytes
+    → read_of (chars bytes) (place_base (chars bytes)) ≡ Some (found, chars rest)
+place-found bytes rest found text is =
+    let count = prefix_len inside bytes in
+    let known = option_map saturated_base (place_of (take count bytes)) in
+    let read = rest-some (drop count bytes) (chars (drop count bytes)) rest known found is in
+    place-read bytes count known text refl refl ∙ read.1 ∙ ap (λ behind. Some (found, chars behind)) (sym read.0)
+
+-- what follows the place that was read begins where the first blank or sign stands
+pub place-cut : (bytes rest : List ℕ) (found : Base) → Some (found, rest) ≡ read_front bytes →
+    (length rest ≤ length bytes) × (length bytes - length rest ≡ prefix_len inside bytes)
+    × (rest ≡ drop (prefix_len inside bytes) bytes)
+place-cut bytes rest found is =
+    let count = prefix_len inside bytes in
+    let known = option_map saturated_base (place_of (take count bytes)) in
+    let read = rest-some (drop count bytes) [] rest known found is in
+    let long = ap length read.0 ∙ length-drop count bytes in (
+      omega (arith, long),
+      omega (arith, long, prefix_len-le-length inside bytes),
+      read.0,
+    )

@@ -13,7 +13,7 @@ pub use Rattle.index_grammar.specs.Grammar.{without_last}
 pub use Rattle.index_grammar.specs.Grammar.Token.{Digits, Sign, Word}
 pub use Rattle.index_grammar.specs.LentTokens.{before_rest, digits_first, token_of, unit_first}
 pub use Rattle.index_grammar.specs.Names.{known_marks, known_tags}
-pub use Rattle.index_grammar.specs.Reading.{found_of, is_dot, read_of}
+pub use Rattle.index_grammar.specs.Reading.{IsClosed, closed_of, found_of, is_dot, read_of, with_rest}
 pub use Rattle.index_grammar.specs.Steps.{after, saturated, saturated_index, stepped}
 pub use Rattle.index_grammar.specs.declared.indices.Base.{Base}
 pub use Rattle.index_grammar.specs.declared.indices.Modifier.{Modifier}
@@ -21,7 +21,7 @@ pub use Rattle.mark_table.specs.SharedMarks.{Mark}
 pub use Rattle.std.proofs.lemmas.Bool.{false≢true}
 pub use Rattle.std.proofs.lemmas.Bool.Decides.{Decides-eqb, Decides-ltb, nat_tests, same_from_decides}
 pub use Rattle.std.proofs.lemmas.List.{append-nil, drop_more, get_or-drop, get_or-take, length-append, length-take}
-pub use Rattle.std.proofs.lemmas.List.{take-append-drop, take-take, take_rest}
+pub use Rattle.std.proofs.lemmas.List.{take-append-drop, take-take}
 pub use Rattle.std.proofs.lemmas.List.Folds.{list_all-append}
 pub use Rattle.std.proofs.lemmas.List.Sums.{prefix_len-le-length}
 pub use Rattle.std.proofs.lemmas.Slice.Eq.{bytes_eq-Decides, ends_is, starts_is, strip_prefix_is}

@@ -1,5 +1,6 @@
 pub mod BoundLaws
 pub mod CharLaws
+pub mod ClosedLaws
 pub mod Common
 pub mod FindLaws
 pub mod FrontLaws
@@ -8,6 +9,7 @@ pub mod LongestLaws
 pub mod LowLaws
 pub mod LowModifierLaws
 pub mod NameLaws
+pub mod NumberLaws
 pub mod PlaceLaws
 pub mod StepLaws
 pub mod TagLaws

@@ -69,17 +69,6 @@ in_line-saturated line text =
       | false ↦ at_saturated line (number_of text)
     ]
 
--- before the dot no number stands
-pub around_dot-none : (text : List ℕ) (dot : ℕ) (place : Option ℕ) → place ≡ Some dot →
-    None ≡ option_map (min most) (number_of (take dot text))
-    → None ≡ option_map saturated_base (around_dot text place)
-around_dot-none text dot place at none = rw at
-    (elim (number_of (take dot text)) as (λ o. None ≡ option_map (min most) o →
-    None ≡ option_map saturated_base (option_and_then (λ line. in_line line (drop (suc dot) text)) o)) [
-      | None ↦ λ _. refl
-      | Some n ↦ λ is. absurd (let h : None ≡ Some (min most n) = is in cc)
-    ] none)
-
 -- before the dot a number stands
 pub around_dot-some : (text : List ℕ) (dot line : ℕ) (place : Option ℕ) (found : Option Base) → place ≡ Some dot
     → Some line ≡ option_map (min most) (number_of (take dot text)) →
@@ -122,13 +111,16 @@ low_digits (c ∷ text) digits =
       | false ↦ λ _ none. absurd (false≢true none)
     ] refl digits
 
+pub digits-of : (text : List ℕ) (n : ℕ) → number_of text ≡ Some n → list_all is_ascii_digit text ≡ true
+digits-of [] n is = refl
+digits-of (c ∷ text) n is = elim (list_all is_ascii_digit (c ∷ text)) as (λ b.
+    (if b then Some (fold add_digit 0 (c ∷ text)) else None) ≡ Some n → b ≡ true) [
+      | true ↦ λ _. refl
+      | false ↦ λ none. absurd (let h : None ≡ Some n = none in cc)
+    ] is
+
 pub low_number : (text : List ℕ) (n : ℕ) → number_of text ≡ Some n → list_all is_low text ≡ true
-low_number [] n is = refl
-low_number (c ∷ text) n is = elim (list_all is_ascii_digit (c ∷ text)) as (λ b. list_all is_ascii_digit (c ∷ text) ≡ b →
-    (if b then Some (fold add_digit 0 (c ∷ text)) else None) ≡ Some n → list_all is_low (c ∷ text) ≡ true) [
-      | true ↦ λ digits _. low_digits (c ∷ text) digits
-      | false ↦ λ _ none. absurd (let h : None ≡ Some n = none in cc)
-    ] refl is
+low_number text n is = low_digits text (digits-of text n is)
 
 low_end : (text : List ℕ) → bytes_eq text (codes "end") ≡ true → list_all is_low text ≡ true
 low_end text same = ap (list_all is_low) ((bytes_eq-Decides text (codes "end")).0 same ∙ end_bytes)
@@ -146,17 +138,21 @@ low_behind line text index is =
           ] refl
     ] refl is
 
--- the parts round a dot have no such character, so the whole has none
-low_parts : (text : List ℕ) (dot : ℕ) → position is_dot text ≡ Some dot → list_all is_low (take dot text) ≡ true →
-    list_all is_low (drop (suc dot) text) ≡ true → list_all is_low text ≡ true
-low_parts text dot at before behind =
+pub dot-split : (text : List ℕ) (dot : ℕ) → position is_dot text ≡ Some dot →
+    text ≡ take dot text ++ 46 ∷ drop (suc dot) text
+dot-split text dot at =
     let found = position-Some is_dot text dot 0 at in
     let here : get_or text dot 0 ≡ 46 = (Decides-eqb (get_or text dot 0) 46).0 found.1 in
     let rest : drop dot text ≡ 46 ∷ drop (suc dot) text = drop_more text dot 0 found.0
     ∙ ap (λ c. c ∷ drop (dot + 1) text) here
     ∙ ap (λ k. 46 ∷ drop k text) (let e : dot + 1 ≡ suc dot = omega arith in e) in
-    ap (list_all is_low) (sym (take-append-drop dot text) ∙ ap (λ ys. take dot text ++ ys) rest)
-    ∙ list_all-append is_low (take dot text) (46 ∷ drop (suc dot) text)
+    sym (take-append-drop dot text) ∙ ap (λ ys. take dot text ++ ys) rest
+
+-- the parts round a dot have no such character, so the whole has none
+low_parts : (text : List ℕ) (dot : ℕ) → position is_dot text ≡ Some dot → list_all is_low (take dot text) ≡ true →
+    list_all is_low (drop (suc dot) text) ≡ true → list_all is_low text ≡ true
+low_parts text dot at before behind =
+    ap (list_all is_low) (dot-split text dot at) ∙ list_all-append is_low (take dot text) (46 ∷ drop (suc dot) text)
     ∙ ap (λ b. b && list_all is_low (drop (suc dot) text)) before ∙ behind
 
 low_around : (text : List ℕ) (place : Option ℕ) (index : Base) → position is_dot text ≡ place →

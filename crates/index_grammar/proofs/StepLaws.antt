@@ -3,7 +3,9 @@ use Rattle.index_grammar.proofs.Common.{◌≡◌, ℕ, Bool, true, false, List,
 use Rattle.index_grammar.proofs.Common.{ap, ◌∙◌, append_assoc, bytes_eq, codes, option_map, if◌then◌else◌, append-nil}
 use Rattle.index_grammar.proofs.Common.{bytes_eq-Decides, Token, modifiers_of, before, counted, number_of}
 use Rattle.index_grammar.proofs.Common.{saturated_modifier, keyword_of, abbreviates, Sign, Digits, Word, digits_first}
-use Rattle.index_grammar.proofs.Common.{unit_first, saturated, after, Modifier}
+use Rattle.index_grammar.proofs.Common.{unit_first, saturated, after, Modifier, length, ◌==◌, arith, tokens_of}
+use Rattle.index_grammar.proofs.Common.{Decides-eqb}
+use Rattle.index_grammar.proofs.TokenLaws.{piece-none}
 use Rattle.index_grammar.specs.declared.indices.Modifier.TheVariants as modifier
 
 abbrev pub any_bytes : List ℕ
@@ -130,3 +132,9 @@ keyword-found word tokens found is =
     ∙ ap (λ m. before m (saturated (modifiers_of tokens)))
     (keywords (abbreviates word 5 (codes "linestart")) (abbreviates word 5 (codes "lineend"))
     (abbreviates word 5 (codes "wordstart")) (abbreviates word 5 (codes "wordend")) ∙ sym is)
+
+-- no text is no modifier
+pub no-steps : (text : List ℕ) → true ≡ (length text == 0) → saturated (modifiers_of (tokens_of text)) ≡ Some []
+no-steps [] none = ap (λ ts. saturated (modifiers_of ts)) (piece-none [] refl)
+no-steps (c ∷ cs) none =
+    let empty : length (c ∷ cs) ≡ 0 = (Decides-eqb (length (c ∷ cs)) 0).0 (sym none) in absurd (omega (arith, empty))

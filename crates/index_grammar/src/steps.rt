@@ -132,6 +132,9 @@ pub(crate) fn read_steps(alloc: Global, text: &[u8]) -> Result<Modifiers, IndexF
     ensures err { IfErr result (λ fault. fault ≢ Memory → (fault ≡ BadIndex)
         × (saturated (modifiers_of (tokens_of text.now)) ≡ None)) }
 {
+    if text.is_empty() {
+        return Ok(Modifiers::new(Vec::new(alloc)));
+    }
     // No modifier has fewer than three bytes.
     let mut modifiers = Vec::with_capacity(alloc, text.len() / 3)?;
     let mut rest = text;

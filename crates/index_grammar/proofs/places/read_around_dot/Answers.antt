@@ -1,22 +1,29 @@
-use Rattle.index_grammar.proofs.Common.{◌+◌, sym, ap, ◌∙◌, take_rest, in_line, around_dot, saturated_base, is_dot}
-use Rattle.index_grammar.proofs.Common.{position, option_map}
-use Rattle.index_grammar.proofs.PlaceLaws.{around_dot-none, around_dot-some}
+use Rattle.index_grammar.proofs.Common.{◌≡◌, ◌∷◌, [], Some, None, ap, sym, ◌∙◌, min, closed_of, saturated_base}
+use Rattle.index_grammar.proofs.Common.{option_map, Decides-eqb, strip_prefix_is, with_rest}
+use Rattle.index_grammar.proofs.ClosedLaws.{after_dot, dot-none, dot-some}
+use Rattle.index_grammar.proofs.PlaceLaws.{most}
 use Rattle.index_grammar.proofs.places.read_around_dot.Goals as goal
 
-pub returns-in_default-clause-value : goal.returns-in_default-clause-value
-returns-in_default-clause-value c =
-    ap (λ place. option_map saturated_base (around_dot c.args.text.now place)) (sym c.in_default.is
-    ∙ c.find_dot.ensures.value)
+pub returns-in_err-line-clause-value : goal.returns-in_err-line-clause-value
+returns-in_err-line-clause-value c = λ front rest is.
+    ap closed_of c.from_residual.ensures
+    ∙ sym (ap (λ o. with_rest rest (option_map saturated_base o)) (dot-none c.args.text.now front rest is
+    (λ line behind number _. let h : None ≡ option_map (min most) (Some line) = (c.in_err-line.ensures {u = tt}).number
+    ∙ ap (option_map (min most)) number in cc)))
 
-pub returns-in-Some-read_number-clause-value : goal.returns-in-Some-read_number-clause-value
-returns-in-Some-read_number-clause-value c =
-    around_dot-some c.args.text.now c.in-Some.dot c.in-Some-read_number.line (position is_dot c.args.text.now)
-    c.read_in_line.result
-    (sym c.find_dot.ensures.value ∙ c.in-Some.is) (sym c.in-Some-read_number.is ∙ c.read_number.ensures)
-    (c.read_in_line.ensures.value ∙ ap (λ text. option_map saturated_base (in_line c.in-Some-read_number.line text))
-    (take_rest c.args.text.now (c.in-Some.dot + 1)))
+pub returns-in_err-strip_prefix-clause-value : goal.returns-in_err-strip_prefix-clause-value
+returns-in_err-strip_prefix-clause-value c = λ front rest is.
+    ap closed_of c.from_residual-in_err-strip_prefix.ensures
+    ∙ sym (ap (λ o. with_rest rest (option_map saturated_base o)) (dot-none c.args.text.now front rest is
+    (λ line behind _ dot. strip_prefix_is Decides-eqb c.in_ok-line.rest.now (46 ∷ []) None
+    (c.in_err-strip_prefix.ensures {u = tt}).cases
+    behind ((c.in_ok-line.ensures {u = tt}).rest ∙ dot))))
 
-pub returns-in-None-clause-value : goal.returns-in-None-clause-value
-returns-in-None-clause-value c =
-    around_dot-none c.args.text.now c.in-Some.dot (position is_dot c.args.text.now)
-    (sym c.find_dot.ensures.value ∙ c.in-Some.is) (sym c.in-None.is ∙ c.read_number.ensures)
+pub returns-clause-value : goal.returns-clause-value
+returns-clause-value c = λ front rest is.
+    let behind = c.in_ok-strip_prefix.field-0 in
+    let known = dot-some c.args.text.now front rest behind.now c.in_ok-line.line is
+    (c.in_ok-line.ensures {u = tt}).number
+    (sym (c.in_ok-line.ensures {u = tt}).rest ∙ strip_prefix_is Decides-eqb c.in_ok-line.rest.now (46 ∷ []) (Some behind)
+    (c.in_ok-strip_prefix.ensures {u = tt}).cases) in
+    c.read_in_line.ensures.value (after_dot c.args.text.now front) rest known.0 ∙ known.1

@@ -1,5 +1,5 @@
 use Rattle.index_grammar.proofs.Common.{refl, Some, sym, ap, ◌∙◌, arith, tokens_of, modifiers_of, saturated, after}
-use Rattle.index_grammar.proofs.StepLaws.{after-step, after-none}
+use Rattle.index_grammar.proofs.StepLaws.{after-step, after-none, no-steps}
 use Rattle.index_grammar.proofs.steps.read_steps.Goals as goal
 
 pub loop-first-preserved : goal.loop-first-preserved
@@ -38,4 +38,9 @@ returns-clause-ok c =
     c.loop-first.invariant.value
     ∙ ap (λ ts. after c.loop-first.modifiers.items (saturated (modifiers_of ts))) (c.in_default.ensures {u = tt}).value
     ∙ after-none c.loop-first.modifiers.items
-    ∙ ap Some (sym c.new.ensures)
+    ∙ ap Some (sym c.new-2.ensures)
+
+pub returns-then-is_empty-clause-ok : goal.returns-then-is_empty-clause-ok
+returns-then-is_empty-clause-ok c =
+    no-steps c.args.text.now (c.if-is_empty.ensures {u = tt})
+    ∙ ap Some (sym (c.new-then-is_empty.ensures ∙ c.new.ensures.items))
