@@ -69,7 +69,7 @@ fn on_line<S: TextStore>(view: &View<'_, S>, line: usize, character: Option<usiz
     }
     match character {
         None => newline_on(view, line - 1),
-        Some(character) => character_on(&view.lined(), line - 1, character),
+        Some(character) => character_on(view, line - 1, character),
     }
 }
 

@@ -1,9 +1,9 @@
-use Rattle.text_index.proofs.Common.{◌≡◌, ◌-◌, suc, Some, ap, ap₂, sym, ◌∙◌, arith, line_value, part_of, shown}
+use Rattle.text_index.proofs.Common.{◌≡◌, ◌-◌, suc, Some, ap, sym, ◌∙◌, arith, line_value, part_of, shown}
 use Rattle.text_index.proofs.values.on_line.Goals as goal
 
 pub returns-in-Some-clause-value : goal.returns-in-Some-clause-value
 returns-in-Some-clause-value g c =
     let number : suc (c.args.line - 1) ≡ c.args.line = omega (arith, c.if-line-eq0.false) in
     c.character_on.ensures.value
-    ∙ ap₂ (λ n part. line_value n (Some c.in-Some.character) (shown part)) number c.lined.ensures
+    ∙ ap (λ n. line_value n (Some c.in-Some.character) (shown (part_of c.args.view.now))) number
     ∙ ap (λ o. line_value c.args.line o (shown (part_of c.args.view.now))) (sym c.in-Some.is)
