@@ -9,12 +9,12 @@ use Rattle.line_lists.proofs.Common.{CanMake, Slots, CanPlace, content_made, fre
 use Rattle.line_lists.proofs.Common.{Holds, made, lines, piece_lines, placed, rows_more, IsAt, content_of, text_of}
 use Rattle.line_lists.proofs.Common.{whole, after_text, after_removal, differing, toggled_more, tags_left_of}
 use Rattle.line_lists.proofs.Common.{with_toggled, with_cleared, set_slot, StepFitsIn, PieceChange, CanChange}
-use Rattle.line_lists.proofs.Common.{IsChangedBy, lines_changed, lines_freed, option_to_list, TagSlot, set_split}
+use Rattle.line_lists.proofs.Common.{IsChangedBy, lines_changed, lines_freed, option_to_list, TagSlot, set_split, ◌^◌}
 use Rattle.line_lists.specs.declared.line_changes.LineChange.{LineChange}
 use Rattle.line_lists.specs.declared.pieces.Growth.{Growth}
 use Rattle.line_lists.proofs.ClearingLaws.{cleared-makes, length-cleared, tags-around}
-use Rattle.line_lists.proofs.CountRows.{count-append, count-parity}
-use Rattle.line_lists.proofs.DraftLaws.{take-more}
+use Rattle.line_lists.proofs.CountRows.{count-append, count-characters, count-parity}
+use Rattle.line_lists.proofs.DraftLaws.{length-whole, take-more}
 use Rattle.line_lists.proofs.EditLaws.{inserted-makes, length-text, marked-makes}
 use Rattle.line_lists.proofs.FoundMarks.{last-makes}
 use Rattle.line_lists.proofs.FreedLaws.{gone-without}
@@ -61,6 +61,23 @@ replaced-made at line xs within =
     set_split xs at line within
     ∙ ap (λ n. take at xs ++ line ∷ drop n xs) (let next : suc at ≡ at + 1 = omega arith in next)
     ∙ sym (spliced-one at line xs)
+
+-- where it ends can be counted
+pub spliced-fits : (k start : ℕ) (line : LineContent) (xs : List LineContent) →
+    start ≡ length (whole (take k xs)).columns → AreLines (spliced k 1 (line ∷ []) xs) →
+    start + length line.columns < 2 ^ 64
+spliced-fits k start line xs starts are =
+    let new = spliced k 1 (line ∷ []) xs in
+    let rest = drop (k + 1) xs in
+    omega (
+      arith,
+      starts,
+      are.counted.characters,
+      count-characters new,
+      ap (λ ys. length (whole ys).columns) (spliced-one k line xs),
+      length-whole (take k xs) (line ∷ rest),
+      length-append line.columns (whole rest).columns,
+    )
 
 -- a column behind the last of its line is the end of the text
 at-last : (lines : List LineContent) (offset k column : ℕ) → IsAt lines offset k column →

@@ -25,6 +25,7 @@ pub use Rattle.line_tree.specs.Finds.{Finds, HasRow, Leads, lines_below}
 pub use Rattle.line_tree.specs.Giving.{Without}
 pub use Rattle.line_tree.specs.Growth.{CanInsert, Grows, HasNoParent, Inserts, IsWide, KeepsLink, KeepsWide, NewLine}
 pub use Rattle.line_tree.specs.Growth.{NewRoot, Stands, StandsAlone, lines_of, names_of, parted, trees, with_line}
+pub use Rattle.line_tree.specs.LastLines.{IsThere}
 pub use Rattle.line_tree.specs.Leaving.{Leaves}
 pub use Rattle.line_tree.specs.Locating.{IsPlaceAt, characters_at, characters_below}
 pub use Rattle.line_tree.specs.MarkTable.{AreBare, IsMarkedBelow, IsTable, holder, lines_without, noted}
@@ -85,6 +86,7 @@ pub use Rattle.std.specs.FinMap.{empty_of_len, get-empty, len-empty, len-insert,
 pub use Rattle.std.specs.List.{All, AllByRecursion, count_by, filter_map, flat_map, insert, remove, sum_by}
 pub use Rattle.std.specs.Option.{option_map}
 pub use Rattle.std.specs.Ordering.{eq_by_cmp, is_lt, nat_cmp}
+pub use Rattle.std.specs.Prelude.{⊤, ◌&&◌, T}
 pub use Rattle.text_model.specs.Content.{Marks, Slots}
 pub use Rattle.text_model.specs.SlotSets.{differing}
 pub use Rattle.text_model.specs.Splices.{removed}

@@ -3,11 +3,14 @@ use Rattle.line_tree.proofs.Common.{◌≡◌, ℕ, suc, [], ◌∷◌, ◌+◌,
 use Rattle.line_tree.proofs.Common.{sym, ap, ◌∙◌, subst, arith, append_assoc, slice_get, Option, None, Some}
 use Rattle.line_tree.proofs.Common.{plus-no_text, FitsSum, LineContent, line_count, Named, contents, total, NodePtr}
 use Rattle.line_tree.proofs.Common.{plus, AreLines, IsCounted, NumbersBelow, count_of, has_mark, spliced, AreBare}
-use Rattle.line_tree.proofs.Common.{IsTable, holder, lines_without, noted, changed}
+use Rattle.line_tree.proofs.Common.{IsTable, holder, lines_without, noted, changed, IsThere, whole, IfSome, ◌<◌}
+use Rattle.line_tree.proofs.Common.{take_at, length-take-le, same_Some, slice_get_within}
 use Rattle.std.proofs.Common.{option_map}
 use Rattle.line_tree.proofs.ChangingLaws.{changed-at}
 use Rattle.line_tree.proofs.HolderLaws.{none-out}
-use Rattle.line_tree.proofs.ListedLaws.{Comes, comes-contents, comes-others, fits-counted}
+use Rattle.line_tree.proofs.ListedLaws.{Comes, comes-contents, comes-others, fits-counted, listed}
+use Rattle.line_tree.specs.declared.last_line.LastLine.{LastLine}
+use Rattle.line_lists.specs.Lists.{Holds}
 use Rattle.line_tree.proofs.TakeLaws.{changed-is}
 use Rattle.line_tree.proofs.WalkLaws.{Passes, forgets, forgets-within, notes}
 
@@ -58,6 +61,25 @@ module _ (old now : List Named) (k : ℕ) (p : NodePtr) (was line : LineContent)
   pub over-contents : contents now ≡ spliced k 1 (line ∷ []) (contents old)
   over-contents = comes-contents old k 1 (line ∷ []) within now comes
 
+  here : slice_get now k ≡ Some (p, line)
+  here = ap (λ ls. slice_get ls k) is ∙ changed-at old k (p, was) (λ _. line) at
+
+  -- it is where the old one was
+  pub over-there : (start end : ℕ) → start ≡ length (whole (take k (contents old))).columns →
+      end ≡ start + length line.columns →
+      IsThere now (record { index = k; name = p; start = start; end = end })
+  over-there start end starts ends =
+      let front = take k (contents old) in
+      let same : take k (contents now) ≡ front = ap (take k) over-contents
+      ∙ ap (take k) (append_assoc front (line ∷ []) (drop (k + 1) (contents old)))
+      ∙ take_at front (line ∷ drop (k + 1) (contents old)) k (length-take-le k (contents old) (omega (arith, within))) in
+      record {
+        name = ap (option_map (λ (l : Named). l.0)) here;
+        start = starts ∙ ap (λ ls. length (whole ls).columns) (sym same);
+        end = λ found there. ends ∙ ap (λ (l : LineContent). start + length l.columns)
+            (same_Some line found (sym (listed now k p line here) ∙ there));
+      }
+
   -- where the old one's marks were forgotten, and then the new one's were noted
   pub over-table : (names between after : List (Option NodePtr)) → AreLines (contents old) → AreLines (contents now) →
       IsTable names old → ((n : ℕ) → noted n between ≡ cond (has_mark n was) None (noted n names)) →
@@ -69,6 +91,19 @@ module _ (old now : List Named) (k : ℕ) (p : NodePtr) (was line : LineContent)
       let same = comes-others old k 1 (line ∷ []) within now comes in
       let others : IsTable between (lines_without k (k + 1) now) =
       record { each = λ n. gone.each n ∙ sym (ap (holder n) same) } in
-      let here = ap (λ ls. slice_get ls k) is ∙ changed-at old k (p, was) (λ _. line) at in
       let all = notes between after now k (k + 1) k p line (passes-one now k p line are_now here) others note in
       record { each = λ n. all.each n ∙ none-out n (k + 1) now }
+
+-- an offset in the line that is remembered
+pub last-holds : (ls : List Named) (last : LastLine) (line : LineContent) (offset : ℕ) → IsThere ls last →
+    slice_get ls last.index ≡ Some (last.name, line) → last.start ≤ offset → offset < last.end →
+    Holds (contents ls) offset last.index (offset - last.start)
+last-holds ls last line offset there at above below =
+    let is = listed ls last.index last.name line at in
+    let end = there.end line is in
+    record {
+      behind = omega (arith, there.start, above);
+      inside = subst (λ found. IfSome found (λ (l : LineContent). offset - last.start < length l.columns)) (sym is)
+          (omega (arith, end, above, below));
+      within = slice_get_within (contents ls) last.index line is;
+    }

@@ -10,6 +10,7 @@ mod climb;
 mod fill;
 mod find;
 mod insert;
+mod last_line;
 mod levels;
 mod line;
 mod locate;

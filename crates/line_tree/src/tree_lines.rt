@@ -1,14 +1,18 @@
 //! The list of lines over the balanced tree, with the name of each mark's line.
 
-ghost use Rattle.std.specs.Prelude.{◌≡◌, ◌<◌, IfSome, length};
+ghost use Rattle.std.specs.Prelude.{◌≡◌, ◌<◌, IfSome, length, take};
 ghost use Rattle.line_lists.specs.Lists.{AreLines};
 ghost use Rattle.line_lists.specs.RowLaws.{AreLines-prop};
+ghost use Rattle.line_lists.specs.Texts.{whole};
+ghost use Rattle.line_tree.specs.LastLines.{IsThere, IsThere-prop};
 ghost use Rattle.line_tree.specs.MarkTable.{IsTable, IsTable-prop};
 ghost use Rattle.line_tree.specs.Places.{IsLineAt};
 ghost use Rattle.line_tree.specs.Room.{HasRoom};
 ghost use Rattle.line_tree.specs.Trees.{contents};
 
+use crate::last_line::LastLine;
 use crate::mark_names::{forget, grow, name_of, note, write};
+use crate::starts::Placed;
 use crate::tree::LineTree;
 use line_lists::LineList;
 use raw_nodes::{NodePtr, Steps};
@@ -23,8 +27,11 @@ pub struct TreeLines {
     tree: LineTree<Steps>,
     /// By the number of a mark.
     names: Vec<Option<NodePtr>>,
+    /// The line that was replaced last, unless a line came or went, or a mark was taken away, since then.
+    last: Option<LastLine>,
     ghost are_lines: { AreLines (contents tree.lines) } by { AreLines-prop (contents tree.lines) },
     ghost table: { IsTable names.items tree.lines } by { IsTable-prop names.items tree.lines },
+    ghost remembered: { IfSome last (IsThere tree.lines) } by { IsThere-prop tree.lines last },
 }
 
 impl TreeLines {
@@ -34,6 +41,21 @@ impl TreeLines {
         ensures are { AreLines (contents result.now.lines) }
     {
         &self.tree
+    }
+
+    /// A line by its index, which is looked for where it isn't the one that is remembered.
+    fn place(&self, index: usize) -> Placed
+        requires { index < length self.now.tree.lines }
+        ensures name { IsLineAt self.now.tree.lines index result.name }
+        ensures start { result.start ≡ length (whole (take index (contents self.now.tree.lines))).columns }
+    {
+        match self.last {
+            Some(last) if last.index == index => Placed {
+                name: last.name,
+                start: last.start,
+            },
+            _ => self.tree.place(index, &mut Steps::new()),
+        }
     }
 }
 
@@ -62,6 +84,7 @@ impl LineList for TreeLines {
         Ok(TreeLines {
             tree: LineTree::new(alloc)?,
             names: Vec::new(alloc),
+            last: None,
         })
     }
 
@@ -74,7 +97,7 @@ impl LineList for TreeLines {
     }
 
     fn placed_line(&self, index: usize) -> (usize, &Line) {
-        let placed = self.tree.place(index, &mut Steps::new());
+        let placed = self.place(index);
         (placed.start, self.tree.line(placed.name))
     }
 
@@ -83,6 +106,11 @@ impl LineList for TreeLines {
     }
 
     fn line_at(&self, offset: usize) -> (usize, usize, &Line) {
+        if let Some(last) = self.last {
+            if last.start <= offset && offset < last.end {
+                return (last.index, offset - last.start, self.tree.line(last.name));
+            }
+        }
         let found = self.tree.locate_line(offset, &mut Steps::new());
         (found.line, found.column, self.tree.line(found.name))
     }
@@ -158,6 +186,7 @@ impl LineList for TreeLines {
     fn take_mark(&mut self, number: MarkNo) {
         if let Some(name) = name_of(&self.names, number) {
             self.tree.take_mark_named(name, number, &mut Steps::new());
+            self.last = None;
             self.names[number.0 as usize] = None;
         }
     }
@@ -165,10 +194,17 @@ impl LineList for TreeLines {
     // The line is looked for once, where a splice looks for it to forget what marks stood there, to put the line in, and
     // to note what marks it has.
     fn replace(&mut self, index: usize, line: Line) {
-        let name = self.tree.select(index, &mut Steps::new());
+        let Placed { name, start } = self.place(index);
+        let end = start + line.len();
         write(&mut self.names, self.tree.line(name), None);
         write(&mut self.names, &line, Some(name));
         self.tree.replace_named(name, line, &mut Steps::new());
+        self.last = Some(LastLine {
+            index,
+            name,
+            start,
+            end,
+        });
     }
 
     fn splice(&mut self, from: usize, count: usize, mut new: Vec<Line>) {
@@ -177,6 +213,7 @@ impl LineList for TreeLines {
             self.replace(from, line);
             return;
         }
+        self.last = None;
         let end = from + new.len();
         forget(&self.tree, &mut self.names, from, from + count);
         self.tree.splice(from, count, new, &mut Steps::new());

@@ -1,5 +1,5 @@
-use Rattle.line_tree.proofs.Common.{◌≡◌, ◌+◌, ◌-◌, suc, sym, ap, ◌∙◌, subst, arith, None, Some, contents, kids, lines_at}
-use Rattle.line_tree.proofs.Common.{lines_in, records, next_line, FailFrom, passes, shows}
+use Rattle.line_tree.proofs.Common.{◌≡◌, ◌+◌, ◌-◌, suc, sym, ap, ◌∙◌, subst, arith, None, Some, contents, kids}
+use Rattle.line_tree.proofs.Common.{lines_at, lines_in, records, next_line, FailFrom, passes, shows}
 use Rattle.line_tree.proofs.NearestLaws.{child-is, child-within, found-within, line-next, long, next-end, next-hit}
 use Rattle.line_tree.proofs.NearestLaws.{next-missed, none-next, past-next}
 use Rattle.line_tree.proofs.RowLaws.{child_is, lines_is, none_of, said, step_no, step_yes}

@@ -5,4 +5,5 @@ pub invariant_of-result : goal.invariant_of-result
 invariant_of-result c = let ls = c.in_ok-new.field-0.lines in let is = c.in_ok-new.ensures in record {
   are_lines = new-are ls is.0 is.1;
   table = new-table c.new-2.result.items ls is.0 c.new-2.ensures.items is.1;
+  remembered = tt;
 }

@@ -66,6 +66,7 @@ invariant_of-self c = let old = c.args.self.now.tree.lines in let now = c.splice
           (sym (comes-contents old c.args.from c.args.count c.args.new.items c.requires.within now comes))
           c.requires.lines;
       table = c.note.ensures.table;
+      remembered = tt;
     }
 
 pub returns-clause-lines : goal.returns-clause-lines

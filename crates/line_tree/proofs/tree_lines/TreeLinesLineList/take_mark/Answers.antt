@@ -33,6 +33,7 @@ invariant_of-self c = let n = c.args.number.0 in let list = c.args.self.now in l
     record {
       are_lines = taken-are n ls now at.0 list.are_lines only made;
       table = taken-table n list.names.items ls now at.0 only list.table made;
+      remembered = tt;
     }
 
 pub returns-in-Some-clause-lines : goal.returns-in-Some-clause-lines
