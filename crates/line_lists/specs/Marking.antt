@@ -1,12 +1,10 @@
 -- Where the mark of a number stands in lines.
-use Rattle.std.specs.Prelude.{◌≡◌, ℕ, ◌+◌, ◌-◌, ◌<◌, min, List, [], ◌∷◌, ◌++◌, Some, length, map, take, drop}
+use Rattle.std.specs.Prelude.{◌≡◌, ℕ, ◌+◌, ◌-◌, min, List, [], ◌∷◌, ◌++◌, Some, length, take, drop}
 use Rattle.std.specs.FinMap as finite
 use Rattle.text_model.specs.declared.places.Place.{Place}
 use Rattle.segments.specs.Columns.{LineContent}
 use Rattle.line_lists.specs.declared.drafts.Copied.{Copied}
 use Rattle.line_lists.specs.declared.drafts.Reached.{Reached}
-use Rattle.line_lists.specs.Edits.{with_mark, without_mark}
-use Rattle.line_lists.specs.Lists.{AreRows, spliced}
 use Rattle.line_lists.specs.Texts.{whole}
 
 -- it stands in one of the lines, at an offset; a mark at the end of this line counts as one before its last character

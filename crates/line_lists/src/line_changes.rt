@@ -53,19 +53,21 @@ fn toggle_ends(line: &mut Line, from: usize, to: usize, slots: &TagSet) -> Resul
 
 /// Puts a text with slots in before the character at an offset, unless it has a newline.
 fn insert_text<L: LineList>(
-    list: &L,
+    list: &mut L,
     offset: usize,
     text: &str,
     slots: &TagSet,
 ) -> Result<Option<LineChange>, AllocError>
-    requires { offset < length (whole (L.lines list.now)).columns }
-    ensures { IfOk result (λ found. IfSome found
-        (IsChangedBy (Insert offset (chars text.now) slots.now) (L.lines list.now))) }
+    requires { offset < length (whole (L.lines list.old)).columns }
+    ensures same { L.lines list.new ≡ L.lines list.old }
+    ensures changed { IfOk result (λ found. IfSome found
+        (IsChangedBy (Insert offset (chars text.now) slots.now) (L.lines list.old))) }
 {
     if cut_line(text).is_some() {
         return Ok(None);
     }
-    let (index, column, here) = list.line_at(offset);
+    let (index, column) = list.seek(offset);
+    let here = list.line(index);
     let differ = slots_before(&list.odd_slots(index), here, column).differing(slots);
     let mut line = here.try_clone()?;
     let rest = line.len() - column;
@@ -81,15 +83,17 @@ fn insert_text<L: LineList>(
 
 /// Takes the characters from one offset to another out, unless the newline of their line is one of them.
 fn remove_range<L: LineList>(
-    list: &L,
+    list: &mut L,
     from: usize,
     to: usize,
 ) -> Result<Option<LineChange>, AllocError>
     requires ordered { from ≤ to }
-    requires within { to < length (whole (L.lines list.now)).columns }
-    ensures { IfOk result (λ found. IfSome found (IsChangedBy (Remove from to) (L.lines list.now))) }
+    requires within { to < length (whole (L.lines list.old)).columns }
+    ensures same { L.lines list.new ≡ L.lines list.old }
+    ensures changed { IfOk result (λ found. IfSome found (IsChangedBy (Remove from to) (L.lines list.old))) }
 {
-    let (index, column, here) = list.line_at(from);
+    let (index, column) = list.seek(from);
+    let here = list.line(index);
     let end = column + (to - from);
     if here.len() <= end {
         return Ok(None);
@@ -106,7 +110,7 @@ fn remove_range<L: LineList>(
 /// Puts a slot on the characters from one offset to another, or takes it off them, unless the newline of their line is
 /// one of them.
 fn set_tag<L: LineList>(
-    list: &L,
+    list: &mut L,
     from: usize,
     to: usize,
     slot: TagSlot,
@@ -114,10 +118,13 @@ fn set_tag<L: LineList>(
 ) -> Result<Option<LineChange>, AllocError>
     requires slot { slot.0 < slot_count }
     requires ordered { from < to }
-    requires within { to ≤ length (whole (L.lines list.now)).columns }
-    ensures { IfOk result (λ found. IfSome found (IsChangedBy (SetTag from to slot is_on) (L.lines list.now))) }
+    requires within { to ≤ length (whole (L.lines list.old)).columns }
+    ensures same { L.lines list.new ≡ L.lines list.old }
+    ensures changed { IfOk result (λ found. IfSome found
+        (IsChangedBy (SetTag from to slot is_on) (L.lines list.old))) }
 {
-    let (index, column, here) = list.line_at(from);
+    let (index, column) = list.seek(from);
+    let here = list.line(index);
     let end = column + (to - from);
     if here.len() <= end {
         return Ok(None);
@@ -156,9 +163,10 @@ fn put_mark<L: LineList>(list: &L, number: MarkNo, place: Place) -> Result<LineC
 }
 
 /// What a step makes of one line, where it changes that line alone.
-fn change_by<L: LineList>(list: &L, step: &Step) -> Result<Option<LineChange>, AllocError>
-    requires { StepFitsIn step.now (length (whole (L.lines list.now)).columns) }
-    ensures { IfOk result (λ found. IfSome found (IsChangedBy step.now (L.lines list.now))) }
+fn change_by<L: LineList>(list: &mut L, step: &Step) -> Result<Option<LineChange>, AllocError>
+    requires { StepFitsIn step.now (length (whole (L.lines list.old)).columns) }
+    ensures same { L.lines list.new ≡ L.lines list.old }
+    ensures changed { IfOk result (λ found. IfSome found (IsChangedBy step.now (L.lines list.old))) }
 {
     match step {
         Step::Insert(offset, text, slots) => insert_text(list, *offset, text.as_str(), slots),
@@ -171,10 +179,12 @@ fn change_by<L: LineList>(list: &L, step: &Step) -> Result<Option<LineChange>, A
     }
 }
 
-/// What a step makes of one line, where it changes that line alone. The line keeps no more room than it needs.
-pub fn line_change<L: LineList>(list: &L, step: &Step) -> Result<Option<LineChange>, AllocError>
-    requires { StepFitsIn step.now (length (whole (L.lines list.now)).columns) }
-    ensures { IfOk result (λ found. IfSome found (IsChangedBy step.now (L.lines list.now))) }
+/// What a step makes of one line of a list, where it changes that line alone; the list stays as it is. The line keeps
+/// no more room than it needs.
+pub fn line_change<L: LineList>(list: &mut L, step: &Step) -> Result<Option<LineChange>, AllocError>
+    requires { StepFitsIn step.now (length (whole (L.lines list.old)).columns) }
+    ensures same { L.lines list.new ≡ L.lines list.old }
+    ensures changed { IfOk result (λ found. IfSome found (IsChangedBy step.now (L.lines list.old))) }
 {
     let Some(mut change) = change_by(list, step)? else {
         return Ok(None);

@@ -181,6 +181,10 @@ impl LineList for LineVec {
         find_column(&self.lines, offset)
     }
 
+    fn seek(&mut self, offset: usize) -> (usize, usize) {
+        find_column(&self.lines, offset)
+    }
+
     fn line_at(&self, offset: usize) -> (usize, usize, &Line) {
         let (index, column) = find_column(&self.lines, offset);
         (index, column, &self.lines[index])

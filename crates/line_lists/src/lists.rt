@@ -62,6 +62,12 @@ pub trait LineList: Drop {
         requires { offset < length (whole (lines self.now)).columns }
         ensures { Holds (lines self.now) offset result.0 result.1 };
 
+    /// The same, before something is done in the line: the list may remember where it is.
+    fn seek(&mut self, offset: usize) -> (usize, usize)
+        requires { offset < length (whole (lines self.old)).columns }
+        ensures same { lines self.new ≡ lines self.old }
+        ensures place { Holds (lines self.old) offset result.0 result.1 };
+
     /// The line that holds an offset, lent, behind its number and the column there.
     fn line_at(&self, offset: usize) -> (usize, usize, &Line)
         requires { offset < length (whole (lines self.now)).columns }

@@ -1,6 +1,6 @@
 //! A text store over any list of lines: prepares an edit as a change of the list, then commits it.
 
-ghost use Rattle.std.specs.Prelude.{◌≡◌, ◌≢◌, ◌≤◌, List, [], ◌∷◌, IfOk, IfSome, OnOk, length, map};
+ghost use Rattle.std.specs.Prelude.{◌≡◌, ◌≢◌, ◌≤◌, List, [], IfOk, IfSome, OnOk, length, map};
 ghost use Rattle.text_model.specs.Steps.{Fits, after};
 ghost use Rattle.text_model.specs.declared.edits.Step.TheVariants.{TakeMark};
 ghost use Rattle.segments.specs.Columns.{LineContent};
@@ -112,12 +112,13 @@ fn change_by_taking(alloc: Global, numbers: Vec<MarkNo>) -> PieceChange
     }
 }
 
-/// What steps make of one line of a list, where there is one step, which changes that line alone.
-fn lone_change<L: LineList>(list: &L, steps: &[Step]) -> Result<Option<LineChange>, AllocError>
-    requires { Fits steps.now (content_of (L.lines list.now)) }
-    ensures can { IfOk result (λ found. IfSome found (CanChange (L.lines list.now))) }
+/// What steps make of one line of a list, which stays as it is, where there is one step, which changes that line alone.
+fn lone_change<L: LineList>(list: &mut L, steps: &[Step]) -> Result<Option<LineChange>, AllocError>
+    requires { Fits steps.now (content_of (L.lines list.old)) }
+    ensures same { L.lines list.new ≡ L.lines list.old }
+    ensures can { IfOk result (λ found. IfSome found (CanChange (L.lines list.old))) }
     ensures new { IfOk result (λ found. IfSome found (λ change.
-        content_of (lines_changed change (L.lines list.now)) ≡ after steps.now (content_of (L.lines list.now)))) }
+        content_of (lines_changed change (L.lines list.old)) ≡ after steps.now (content_of (L.lines list.old)))) }
 {
     let [step] = steps else {
         return Ok(None);
@@ -307,7 +308,7 @@ impl<L: LineList> TextStore for LineStore<L> {
 
     fn prepare(&mut self, edit: &Edit) -> Result<Change, AllocError> {
         let steps = edit.steps.as_slice();
-        if let Some(change) = lone_change(&self.list, steps)? {
+        if let Some(change) = lone_change(&mut self.list, steps)? {
             self.reserve_line(&change)?;
             return Ok(Change::Line(change));
         }
@@ -318,7 +319,7 @@ impl<L: LineList> TextStore for LineStore<L> {
 
     fn prepare_owned(&mut self, edit: Edit) -> Result<Change, AllocError> {
         let steps = edit.steps.into_vec();
-        if let Some(change) = lone_change(&self.list, &steps)? {
+        if let Some(change) = lone_change(&mut self.list, &steps)? {
             self.reserve_line(&change)?;
             return Ok(Change::Line(change));
         }

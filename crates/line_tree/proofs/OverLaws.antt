@@ -11,7 +11,11 @@ use Rattle.line_tree.proofs.HolderLaws.{none-out}
 use Rattle.line_tree.proofs.ListedLaws.{Comes, comes-contents, comes-others, fits-counted, listed}
 use Rattle.line_tree.specs.declared.last_line.LastLine.{LastLine}
 use Rattle.line_lists.specs.Lists.{Holds}
+use Rattle.line_tree.proofs.PlaceLaws.{named_line}
 use Rattle.line_tree.proofs.TakeLaws.{changed-is}
+use Rattle.line_lists.proofs.LineStarts.{near-most}
+use Rattle.line_lists.proofs.CountRows.{count-characters}
+use Rattle.std.proofs.Common.{◌^◌}
 use Rattle.line_tree.proofs.WalkLaws.{Passes, forgets, forgets-within, notes}
 
 pub fits-one : (ls : List Named) (line : LineContent) → IsCounted (plus (count_of (contents ls)) (count_of (line ∷ [])))
@@ -95,11 +99,12 @@ module _ (old now : List Named) (k : ℕ) (p : NodePtr) (was line : LineContent)
       record { each = λ n. all.each n ∙ none-out n (k + 1) now }
 
 -- an offset in the line that is remembered
-pub last-holds : (ls : List Named) (last : LastLine) (line : LineContent) (offset : ℕ) → IsThere ls last →
-    slice_get ls last.index ≡ Some (last.name, line) → last.start ≤ offset → offset < last.end →
-    Holds (contents ls) offset last.index (offset - last.start)
-last-holds ls last line offset there at above below =
-    let is = listed ls last.index last.name line at in
+pub last-holds : (ls : List Named) (last : LastLine) (offset : ℕ) → IsThere ls last → last.start ≤ offset →
+    offset < last.end → Holds (contents ls) offset last.index (offset - last.start)
+last-holds ls last offset there above below =
+    let named = named_line ls last.index last.name there.name in
+    let line = named.0.1 in
+    let is = listed ls last.index named.0.0 line named.1 in
     let end = there.end line is in
     record {
       behind = omega (arith, there.start, above);
@@ -107,3 +112,27 @@ last-holds ls last line offset there at above below =
           (omega (arith, end, above, below));
       within = slice_get_within (contents ls) last.index line is;
     }
+
+-- a line that is found by an offset
+pub found-there : (ls : List Named) (offset k column len : ℕ) (name : NodePtr) (line : LineContent) →
+    Holds (contents ls) offset k column → slice_get ls k ≡ Some (name, line) → len ≡ length line.columns →
+    IsThere ls (record { index = k; name = name; start = offset - column; end = (offset - column) + len })
+found-there ls offset k column len name line holds at is = record {
+  name = ap (option_map (λ (l : Named). l.0)) at;
+  start = omega (arith, holds.behind);
+  end = λ found there. ap (λ n. (offset - column) + n) is
+      ∙ ap (λ (l : LineContent). (offset - column) + length l.columns)
+      (same_Some line found (sym (listed ls k name line at) ∙ there));
+}
+
+pub found-fits : (ls : List Named) (offset k column : ℕ) (name : NodePtr) (line : LineContent) →
+    AreLines (contents ls) → Holds (contents ls) offset k column → slice_get ls k ≡ Some (name, line) →
+    (offset - column) + length line.columns < 2 ^ 64
+found-fits ls offset k column name line are holds at =
+    omega (
+      arith,
+      near-most (contents ls) offset k column (length line.columns) line holds.behind (listed ls k name line at)
+          (omega arith),
+      are.counted.characters,
+      count-characters (contents ls),
+    )

@@ -1,5 +1,5 @@
 -- A line that is remembered.
-use Rattle.std.specs.Prelude.{◌≡◌, ℕ, ◌+◌, List, length, take, slice_get, IfSome}
+use Rattle.std.specs.Prelude.{◌≡◌, ◌+◌, List, length, take, slice_get, IfSome}
 use Rattle.std.specs.declared.option.Option.{Option}
 use Rattle.std.specs.declared.option.Option.TheVariants.{None, Some}
 use Rattle.std.proofs.Props.{props}

@@ -1,4 +1,4 @@
-//! The line that was replaced last, which is found at once as long as no line comes or goes.
+//! The line that was sought or replaced last, which is found at once as long as no line comes or goes.
 
 use raw_nodes::NodePtr;
 

@@ -27,7 +27,7 @@ pub struct TreeLines {
     tree: LineTree<Steps>,
     /// By the number of a mark.
     names: Vec<Option<NodePtr>>,
-    /// The line that was replaced last, unless a line came or went, or a mark was taken away, since then.
+    /// The line that was sought or replaced last, unless a line came or went since, or a mark was taken away.
     last: Option<LastLine>,
     ghost are_lines: { AreLines (contents tree.lines) } by { AreLines-prop (contents tree.lines) },
     ghost table: { IsTable names.items tree.lines } by { IsTable-prop names.items tree.lines },
@@ -43,7 +43,18 @@ impl TreeLines {
         &self.tree
     }
 
-    /// A line by its index, which is looked for where it isn't the one that is remembered.
+    /// The name of a line by its index, which is looked for where it isn't the one that is remembered.
+    fn name(&self, index: usize) -> NodePtr
+        requires { index < length self.now.tree.lines }
+        ensures { IsLineAt self.now.tree.lines index result }
+    {
+        match self.last {
+            Some(last) if last.index == index => last.name,
+            _ => self.tree.select(index, &mut Steps::new()),
+        }
+    }
+
+    /// The same with where the line begins.
     fn place(&self, index: usize) -> Placed
         requires { index < length self.now.tree.lines }
         ensures name { IsLineAt self.now.tree.lines index result.name }
@@ -93,7 +104,7 @@ impl LineList for TreeLines {
     }
 
     fn line(&self, index: usize) -> &Line {
-        self.tree.line(self.tree.select(index, &mut Steps::new()))
+        self.tree.line(self.name(index))
     }
 
     fn placed_line(&self, index: usize) -> (usize, &Line) {
@@ -103,6 +114,23 @@ impl LineList for TreeLines {
 
     fn locate(&self, offset: usize) -> (usize, usize) {
         self.tree.locate(offset, &mut Steps::new())
+    }
+
+    fn seek(&mut self, offset: usize) -> (usize, usize) {
+        if let Some(last) = self.last {
+            if last.start <= offset && offset < last.end {
+                return (last.index, offset - last.start);
+            }
+        }
+        let found = self.tree.locate_line(offset, &mut Steps::new());
+        let start = offset - found.column;
+        self.last = Some(LastLine {
+            index: found.line,
+            name: found.name,
+            start,
+            end: start + self.tree.line(found.name).len(),
+        });
+        (found.line, found.column)
     }
 
     fn line_at(&self, offset: usize) -> (usize, usize, &Line) {
@@ -191,8 +219,8 @@ impl LineList for TreeLines {
         }
     }
 
-    // The line is looked for once, where a splice looks for it to forget what marks stood there, to put the line in, and
-    // to note what marks it has.
+    // The line is looked for once. A splice looks for it to forget what marks it had, to put the new one in, and to
+    // note what marks that has.
     fn replace(&mut self, index: usize, line: Line) {
         let Placed { name, start } = self.place(index);
         let end = start + line.len();

@@ -1,20 +1,25 @@
-use Rattle.line_lists.proofs.Common.{◌≡◌, ◌+◌, ◌-◌, ◌<◌, ◌∙◌, ap, arith, refl, length, LineContent, Slots, with_cleared}
-use Rattle.line_lists.proofs.Common.{with_toggled, differing, set_slot, tags_left_of, take}
+use Rattle.line_lists.proofs.Common.{subst, slice_get, Some, count_of, ◌≡◌, ◌+◌, ◌-◌, ◌<◌, ◌∙◌, ap, arith, refl, length}
+use Rattle.line_lists.proofs.Common.{LineContent, Slots, with_cleared, with_toggled, differing, set_slot, tags_left_of}
+use Rattle.line_lists.proofs.Common.{take}
 use Rattle.line_lists.proofs.ClearingLaws.{length-cleared}
 use Rattle.line_lists.proofs.LineChangeLaws.{column-inside, tagged-changed, toggled-one}
 use Rattle.line_lists.proofs.WholeLaws.{length-toggled}
 use Rattle.line_lists.proofs.line_changes.set_tag.Goals as goal
 
-pub returns : goal.returns
-returns g c =
+pub returns-clause-changed : goal.returns-clause-changed
+returns-clause-changed g c =
     let are = g.L.LineList.are_lines c.args.list.now in
-    let column = c.line_at-index.result.1 in
+    let column = c.seek-index.result.1 in
     let end = column + (c.args.to - c.args.from) in
-    let here = c.line_at-index.result.2.now in
+    let here = c.line-here.result.now in
     let first = c.switched_slots-first.result in
     let last = c.switched_slots-last.result in
-    let place = c.line_at-index.ensures.place in
-    let inside = column-inside are place c.line_at-index.ensures.line in
+    let place = c.seek-index.ensures.place in
+    let there = subst (λ lines. slice_get lines c.seek-index.result.0 ≡ Some c.line-here.result.now)
+    c.seek-index.ensures.same c.line-here.ensures in
+    let before = c.odd_slots-tags.ensures
+    ∙ ap (λ lines. (count_of (take c.seek-index.result.0 lines)).parity) c.seek-index.ensures.same in
+    let inside = column-inside are place there in
     let within : end < length here.columns = omega (arith, c.if-len-end.false, c.len.ensures) in
     let bare : c.clear.new.self ≡ with_cleared c.args.slot.0 column end here =
     (λ i. record { columns = c.clear.ensures.columns i; marks = c.clear.ensures.marks i })
@@ -32,6 +37,6 @@ returns g c =
     let switch = λ (slots : Slots). differing slots (set_slot c.args.slot.0 c.args.is_on slots) in
     let tags = λ (before : Slots). differing before (tags_left_of (take column here.columns)) in
     let tags-end = λ (before : Slots). differing before (tags_left_of (take end here.columns)) in
-    tagged-changed are place c.line_at-index.ensures.line c.requires.ordered c.requires.within refl within bare one new
-    (c.switched_slots-first.ensures ∙ ap switch (c.slots_before.ensures ∙ ap tags c.odd_slots-tags.ensures))
-    (c.switched_slots-last.ensures ∙ ap switch (c.slots_before-2.ensures ∙ ap tags-end c.odd_slots-tags.ensures))
+    tagged-changed are place there c.requires.ordered c.requires.within refl within bare one new
+    (c.switched_slots-first.ensures ∙ ap switch (c.slots_before.ensures ∙ ap tags before))
+    (c.switched_slots-last.ensures ∙ ap switch (c.slots_before-2.ensures ∙ ap tags-end before))

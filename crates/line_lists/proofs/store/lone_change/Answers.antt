@@ -1,5 +1,6 @@
-use Rattle.line_lists.proofs.Common.{◌≡◌, ◌<◌, ◌≤◌, List, [], ◌∷◌, length, get_or, sym, subst, ap, ◌∙◌, arith, Step}
-use Rattle.line_lists.proofs.Common.{Fits, StepFitsIn, IfSome, IsChangedBy, after, content_of, whole}
+use Rattle.line_lists.proofs.Common.{IsCounted, plus, count_of, ◌≡◌, ◌<◌, ◌≤◌, List, [], ◌∷◌, length, get_or, sym}
+use Rattle.line_lists.proofs.Common.{subst, ap, ◌∙◌, arith, Step, Fits, StepFitsIn, IfSome, IsChangedBy, after}
+use Rattle.line_lists.proofs.Common.{content_of, whole}
 use Rattle.line_lists.proofs.LineChangeLaws.{change-can, change-new}
 use Rattle.line_lists.proofs.PlaceRows.{length-content}
 use Rattle.line_lists.proofs.store.lone_change.Given.{Over}
@@ -24,15 +25,17 @@ fits g c =
 changed : (g : Over) (c : In-Some g) →
     IsChangedBy c.step-item.result (g.L.LineList.lines c.args.list.now) c.in-Some.change
 changed g c = subst (λ found. IfSome found (IsChangedBy c.step-item.result (g.L.LineList.lines c.args.list.now)))
-    c.in-Some.is c.in_ok-change.ensures
+    c.in-Some.is c.in_ok-change.ensures.changed
 
 pub line_change-requires : goal.line_change-requires
-line_change-requires g c = fits g c
+line_change-requires g c = fits g (goal.at.line_change-requires g c).After-step-item
 
 pub returns-clause-can : goal.returns-clause-can
 returns-clause-can g c =
     change-can c.in-Some.change (g.L.LineList.are_lines c.args.list.now)
-    (changed g (goal.at.returns-clause-can g c).In-Some) c.in_ok-count_line.ensures
+    (changed g (goal.at.returns-clause-can g c).In-Some)
+    (subst (λ lines. IsCounted (plus (count_of lines) (count_of (c.in-Some.change.line ∷ [])))) c.line_change.ensures.same
+    c.in_ok-count_line.ensures)
 
 pub returns-clause-new : goal.returns-clause-new
 returns-clause-new g c =

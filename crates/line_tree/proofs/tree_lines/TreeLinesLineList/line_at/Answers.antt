@@ -13,8 +13,8 @@ line-requires c = (c.in-Some.last.index, (there (goal.at.line-requires c).In-Som
 pub returns-then-offset-last-clause-place : goal.returns-then-offset-last-clause-place
 returns-then-offset-last-clause-place c =
     let is = there (goal.at.returns-then-offset-last-clause-place c).In-Some in
-    last-holds c.args.self.now.tree.lines c.in-Some.last c.line.result.now c.args.offset is
-    (c.line.ensures c.in-Some.last.index is.name) (omega (arith, c.if-last-offset.true)) (omega (arith, c.if-offset-last.true))
+    last-holds c.args.self.now.tree.lines c.in-Some.last c.args.offset is (omega (arith, c.if-last-offset.true))
+    (omega (arith, c.if-offset-last.true))
 
 pub returns-then-offset-last-clause-line : goal.returns-then-offset-last-clause-line
 returns-then-offset-last-clause-line c =
