@@ -3,9 +3,7 @@ use Rattle.documents.proofs.Common.{◌≡◌, ◌+◌, ◌++◌, true, false, n
 use Rattle.documents.proofs.Common.{if◌then◌else◌, Action, replayed, replays, back-cons, Document, without_cells}
 use Rattle.documents.proofs.Common.{action_again, action_back, group_again, group_back, text_back, Option, None, Some}
 use Rattle.documents.proofs.Common.{Empty, Widget, next_undo, next_redo, edit_undo, edit_redo, undo_found, redo_found}
-use Rattle.documents.proofs.Common.{undone, redone, is_idle, answered, edited, refused, is_some, NothingToUndo}
-use Rattle.documents.proofs.Common.{NothingToRedo, Ok, Result, sym, ◌↔◌}
-use Rattle.edit_ops.proofs.RunLaws.{some_is}
+use Rattle.documents.proofs.Common.{undone, redone, is_idle, answered, edited}
 
 -- the actions of a group that are reverted, the last first
 again-append : (actions others : List Action) (document : Document)
@@ -30,18 +28,6 @@ again-back (action ∷ actions) document =
     ∙ flipped-again action (group_again (replays true actions) document)
     ∙ ap (action_back action) (again-back actions document)
 
--- ---- the commands, where no actions are kept
-
-pub undo-off : (document : Document) (widget : Widget) → document.undo ≡ false →
-    edit_undo document widget ≡ answered document Empty
-undo-off document widget off =
-    ap (λ b. if b then undo_found document widget (next_undo document.history) else answered document Empty) off
-
-pub redo-off : (document : Document) (widget : Widget) → document.undo ≡ false →
-    edit_redo document widget ≡ answered document Empty
-redo-off document widget off =
-    ap (λ b. if b then redo_found document widget (next_redo document.history) else answered document Empty) off
-
 -- ---- the commands, where actions are kept
 
 pub undo-as : (document : Document) (widget : Widget) (found : Option (List Action)) → document.undo ≡ true →
@@ -58,36 +44,6 @@ redo-as document widget found on is =
     ap (λ b. if b then redo_found document widget (next_redo document.history) else answered document Empty) on
     ∙ ap (redo_found document widget) is
 
--- where no group is left
-none-is : {A : Type 0} (found : Option A) → is_some found ≡ false → found ≡ None
-none-is None none = refl
-none-is (Some value) none = absurd (cc)
-
-pub undo-none : (document : Document) (widget : Widget) → document.undo ≡ true →
-    is_some (next_undo document.history) ≡ false → edit_undo document widget ≡ refused document NothingToUndo
-undo-none document widget on none = undo-as document widget None on (none-is (next_undo document.history) none)
-
-pub redo-none : (document : Document) (widget : Widget) → document.undo ≡ true →
-    is_some (next_redo document.history) ≡ false → edit_redo document widget ≡ refused document NothingToRedo
-redo-none document widget on none = redo-as document widget None on (none-is (next_redo document.history) none)
-
--- by an idle widget
-pub undo-idle : (document : Document) (widget : Widget) → document.undo ≡ true →
-    is_some (next_undo document.history) ≡ true → is_idle document widget ≡ true
-    → edit_undo document widget ≡ answered document Empty
-undo-idle document widget on some idle =
-    let found = some_is (next_undo document.history) some in
-    undo-as document widget (Some found.0) on found.1 ∙ ap (λ b. if b then answered document Empty
-    else edited (undone widget found.0 document) (replays true found.0)) idle
-
-pub redo-idle : (document : Document) (widget : Widget) → document.undo ≡ true →
-    is_some (next_redo document.history) ≡ true → is_idle document widget ≡ true
-    → edit_redo document widget ≡ answered document Empty
-redo-idle document widget on some idle =
-    let found = some_is (next_redo document.history) some in
-    redo-as document widget (Some found.0) on found.1 ∙ ap (λ b. if b then answered document Empty
-    else edited (redone widget found.0 document) (replays false found.0)) idle
-
 -- by a widget that isn't idle
 pub undo-done : (document : Document) (widget : Widget) (group : List Action) → document.undo ≡ true →
     next_undo document.history ≡ Some group → is_idle document widget ≡ false
@@ -102,13 +58,6 @@ pub redo-done : (document : Document) (widget : Widget) (group : List Action) �
 redo-done document widget group on is active =
     redo-as document widget (Some group) on is
     ∙ ap (λ b. if b then answered document Empty else edited (redone widget group document) (replays false group)) active
-
--- where there is a plan there is a group
-pub group-planned : {A E : Type 0} (result : Result (Option A) E) (found : Option (List Action)) (plan : A)
-    → (result ≡ Ok None ↔ found ≡ None) → result ≡ Ok (Some plan) → (group : List Action) × (found ≡ Some group)
-group-planned result None plan none made =
-    absurd (let h : Ok (Some plan) ≡ Ok None = sym made ∙ none.1 refl in cc)
-group-planned result (Some group) plan none made = (group, refl)
 
 -- what holds of the document, and of it with the last group undone, holds after the command
 pub undo-carried : (P : Document → Type 0) (document : Document) (widget : Widget) → P document →

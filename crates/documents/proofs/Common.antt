@@ -23,8 +23,8 @@ pub use Rattle.command_effects.specs.declared.answers.Answer.{Answer}
 pub use Rattle.command_effects.specs.declared.answers.Answer.TheVariants.{Empty}
 pub use Rattle.command_effects.specs.declared.answers.Fault.{Fault}
 pub use Rattle.command_effects.specs.declared.answers.Fault.TheVariants.{InvalidCommandName, Memory, NoSuchTag}
-pub use Rattle.command_effects.specs.declared.answers.Fault.TheVariants.{NothingToRedo, NothingToUndo, TextTooLong}
-pub use Rattle.command_effects.specs.declared.answers.Fault.TheVariants.{TooManyMarks, TooManyTags}
+pub use Rattle.command_effects.specs.declared.answers.Fault.TheVariants.{NothingToUndo, TextTooLong, TooManyMarks}
+pub use Rattle.command_effects.specs.declared.answers.Fault.TheVariants.{TooManyTags}
 pub use Rattle.command_effects.specs.declared.settings.DocumentSettings.{DocumentSettings}
 pub use Rattle.command_effects.specs.declared.settings.Settings.{Settings}
 pub use Rattle.documents.specs.Deletions.{delete_places, delete_spans, deleted_runs, deletions, last_bare, replace_span}
@@ -56,7 +56,7 @@ pub use Rattle.documents.specs.Seats.{IsLonger}
 pub use Rattle.documents.specs.Tags.{add_spans, known_or, remove_spans, reordered, tag_delete, tags_on}
 pub use Rattle.documents.specs.Texts.{insert_at, insertion_at, insertion_offset, joined_text, keyed_text, tags_with}
 pub use Rattle.documents.specs.Texts.{within_limits}
-pub use Rattle.documents.specs.Told.{Foretells, reply_of}
+pub use Rattle.documents.specs.Told.{Foretells, IsTold, reply_of}
 pub use Rattle.documents.specs.Views.{is_idle, part_between, shown, shown_flags, view_end, view_start}
 pub use Rattle.documents.specs.WellFormed.{HasItsKeys, IsPlaced, IsWellFormedDocument, belongs, window_names}
 pub use Rattle.documents.specs.Widgets.{IsOpen, ShowsOpenly, is_kept, new_widget, widget_named, with_peer}
@@ -83,11 +83,14 @@ pub use Rattle.edit_ops.specs.Reversals.{action_redone, group_redone, group_undo
 pub use Rattle.edit_ops.specs.Reversals.{redo_end, taken_back, undo_end}
 pub use Rattle.edit_ops.specs.States.{Log, State, log_noted, log_of, state_of}
 pub use Rattle.edit_ops.specs.Tagging.{SpanFits, cell_without, cleared, tagged}
-pub use Rattle.edit_ops.specs.Told.{AreExact, AreFalling, AreHunks, Tells, after_change, deletion, insertion, replacing}
+pub use Rattle.edit_ops.specs.Told.{AreExact, AreFalling, Tells, after_change, deletion, insertion, replacing}
 pub use Rattle.edit_ops.specs.declared.anchors.Anchors.{Anchors}
 pub use Rattle.edit_ops.specs.declared.changes.TextChange.{TextChange}
+pub use Rattle.edit_ops.specs.declared.deltas.Delta.{Delta}
+pub use Rattle.edit_ops.specs.declared.plans.Effects.{Effects}
 pub use Rattle.edit_ops.specs.declared.slotted_texts.SlottedText.{SlottedText}
 pub use Rattle.edit_ops.specs.declared.spans.Span.{Span}
+pub use Rattle.edit_ops.specs.declared.texts.EditedText.{EditedText}
 pub use Rattle.index_grammar.specs.Names.{known_marks, known_tags}
 pub use Rattle.mark_table.proofs.ShiftLaws.{AreBelow, next-shifted, previous-shifted, shifted}
 pub use Rattle.mark_table.specs.Order.{origin_in, rank_of, usable}
@@ -99,7 +102,7 @@ pub use Rattle.name_list.specs.Names.{AreNames, IsLeastFree, Named, Names, numbe
 pub use Rattle.reports.proofs.BridgeLaws.{is_key_of, keys_of-belongs, keys_of-empty, keys_of-has, keys_of-set_slot}
 pub use Rattle.reports.proofs.ClearedLaws.{AreSeats-left, gone-apart, gone-low, keyed-deleted, keyed-unseated}
 pub use Rattle.reports.proofs.ClearedLaws.{known-deleted, known-unseated, map-filter, names_left}
-pub use Rattle.reports.proofs.DeltaLaws.{known-stand, planned-made, taken-stand, told-planned}
+pub use Rattle.reports.proofs.DeltaLaws.{known-stand, planned-made, told-planned}
 pub use Rattle.reports.proofs.KeyedLaws.{characters-keyed, keyed-bare, keyed-flags, keyed-inserted, keyed-more}
 pub use Rattle.reports.proofs.KeyedLaws.{keyed-removed, keyed-reordered, keyed-seated, keyed-shared, keyed-tagged}
 pub use Rattle.reports.proofs.KeyedLaws.{keyed_cell, length-keyed}
@@ -107,7 +110,7 @@ pub use Rattle.reports.proofs.KnownLaws.{IsKnownPiece, known-changed, known-empt
 pub use Rattle.reports.proofs.KnownLaws.{known-named, known-put, known-reordered, known-seated, known-shared}
 pub use Rattle.reports.proofs.KnownLaws.{known-slot}
 pub use Rattle.reports.proofs.LookupLaws.{among-looked, has}
-pub use Rattle.reports.proofs.ReportLaws.{of_tags, still-tells, tags-alone}
+pub use Rattle.reports.proofs.ReportLaws.{of_tags, tags-alone}
 pub use Rattle.reports.proofs.SlotLaws.{AreSeats-names, known_standing, slot_for, slot_for-named}
 pub use Rattle.reports.proofs.SpanToldLaws.{has_key, runs-told, with_tag-none}
 pub use Rattle.reports.proofs.WordLaws.{among-other, same-word, texts-more, words-are}
@@ -146,7 +149,8 @@ pub use Rattle.std.specs.Char.{IsScalar}
 pub use Rattle.std.specs.List.{All, AllByRecursion, cons_option, flat_map, list_any, position_from}
 pub use Rattle.std.specs.Option.{option_or}
 pub use Rattle.std.specs.Ordering.{eq_by_cmp, is_eq, nat_cmp}
-pub use Rattle.std.specs.Prelude.{◌↔◌, IsErr, IsErrAnd, IsUtf8, box_value, codes, decimal, is_ok, reverse, unwrap_or}
+pub use Rattle.std.specs.Prelude.{◌↔◌, Box, IfErr, IsErr, IsErrAnd, IsOk, IsSome, IsUtf8, codes, decimal, is_ok}
+pub use Rattle.std.specs.Prelude.{reverse, unwrap_or}
 pub use Rattle.tag_table.specs.Priority.{IsOrdered, IsUnknown, Order, lowered, raised}
 pub use Rattle.tag_table.specs.Tags.{AreTags, Tag, Tags, first_slot, names_of, sel, slot_of, slots_of}
 pub use Rattle.tag_table.specs.declared.faults.NoSuchTag.TheVariants.{Moved, Neighbour}

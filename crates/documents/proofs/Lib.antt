@@ -42,6 +42,7 @@ pub mod ReversalLaws
 pub mod SeatLaws
 pub mod SeatedLaws
 pub mod SeenLaws
+pub mod SettledLaws
 pub mod SettledMarksLaws
 pub mod SpanLaws
 pub mod StateLaws

@@ -13,11 +13,13 @@ use Rattle.documents.proofs.Common.{guarded, redone-kept, redone-text, undone-ke
 use Rattle.documents.proofs.Common.{with_clipped, Document, Parts, Widget, document_of, widget_at, keys_between}
 use Rattle.documents.proofs.Common.{without_cells, Stands, action_again, edit_redo, edit_undo, group_again, group_back}
 use Rattle.documents.proofs.Common.{redone, text_back, undone, with_end, is_idle, IsWellFormedDocument, replays}
+use Rattle.documents.proofs.Common.{none-some, Bool, ◌↔◌, ◌||◌, not, slice_get, numbers_of, KnowsDelta, planned, Result}
 use Rattle.documents.proofs.Common.{option_map, back-reverted, back-undone, edited, AreScalars, Change, known-shared}
+use Rattle.documents.proofs.Common.{Box, IsSome, Delta, Effects}
 use Rattle.edit_ops.proofs.ReplayLaws.{back-end}
 use Rattle.documents.proofs.BackLaws.{again-back, redo-done, undo-done}
 use Rattle.documents.proofs.ChangeLaws.{Leaves, does-changed}
-use Rattle.documents.proofs.PartsLaws.{Sits}
+use Rattle.documents.proofs.PartsLaws.{Sits, sits}
 use Rattle.documents.proofs.ReplacementLaws.{insert-there, name-stays, sits-yet, stands-clipped}
 use Rattle.documents.proofs.StateLaws.{keys-put, stands-out, stands-put, state_in, with_log, with_state}
 use Rattle.documents.proofs.ViewLaws.{counted}
@@ -238,6 +240,58 @@ pub record CanRevert (parts : Parts) (document : Document) (place slot : ℕ) : 
   pub sits : Sits parts document place slot
   pub on : parts.journal.settings.undo ≡ true
   pub active : is_idle document (widget_at document place) ≡ false
+
+pub can-revert : {parts : Parts} {document : Document} {slot : ℕ} {found stays : Bool} (place : ℕ)
+    → Stands parts document → slice_get (numbers_of parts.seats.entries) place ≡ Some slot
+    → stays ≡ (not document.undo || (found && is_idle document (widget_at document place))) → stays ≡ false
+    → found ≡ true → CanRevert parts document place slot
+can-revert {parts} {document} place stands seated is goes some =
+    let idle : Bool = is_idle document (widget_at document place) in
+    let both = by document.undo idle (ap (λ b. not document.undo || (b && idle)) (sym some) ∙ sym is ∙ goes) in
+    record {
+      stands = stands;
+      sits = sits place stands seated;
+      on = ap (λ (d : Document). d.undo) stands.is ∙ both.0;
+      active = both.1;
+    }
+  where
+    by : (undo idle : Bool) → (not undo || idle) ≡ false → (undo ≡ true) × (idle ≡ false)
+    by false idle never = absurd (true≢false never)
+    by true idle active = (refl, active)
+
+-- what a plan of a group knows of the group, and makes of the text
+pub record IsReversal (limits : LimitTable) (follows back : Bool) (found : Option (List Action)) (made : State → State)
+    (old : State) (outcome : Content) (effects : Option Effects) {Z : Type 0} (delta : Option (Box Delta Z)) : Type 0
+  where
+    pub group : List Action
+    pub is : found ≡ Some group
+    pub sound : AreReplays limits (replays back group)
+    pub makes : planned effects outcome old.anchors old.log ≡ made old
+    pub knows : KnowsDelta follows (replays back group) old.content.cells outcome.cells delta
+
+pub reversal : {Q E Z : Type 0} (outcome : Q → Content) (effects : Q → Option Effects)
+    (delta : Q → Option (Box Delta Z)) {limits given : LimitTable} {follows back : Bool} {made : State → State}
+    {old : State} {result : Result (Option Q) E} (found : Option (List Action)) (planned_group : Option Q) {plan : Q}
+    → (result ≡ Ok None ↔ found ≡ None) → result ≡ Ok planned_group → planned_group ≡ Some plan → given ≡ limits
+    → (IsSome found → AreLimits given) → IfSome found (λ group. AreScalars (replays back group))
+    → IfSome planned_group (λ plan. planned (effects plan) (outcome plan) old.anchors old.log ≡ made old)
+    → IfSome found (λ group. IfSome planned_group (λ plan.
+    KnowsDelta follows (replays back group) old.content.cells (outcome plan).cells (delta plan)))
+    → IsReversal limits follows back found made old (outcome plan) (effects plan) (delta plan)
+reversal outcome effects delta found None {plan = plan} none was is same bounds scalars makes knows =
+    absurd (none-some plan is)
+reversal outcome effects delta None (Some other) none was is same bounds scalars makes knows =
+    absurd (let h : Ok (Some other) ≡ Ok None = sym was ∙ none.1 refl in cc)
+reversal outcome effects delta {limits = limits} {follows = follows} {back} {made} {old} (Some group) (Some other) none
+    was is same bounds scalars makes knows =
+    subst (λ plan. IsReversal limits follows back (Some group) made old (outcome plan) (effects plan) (delta plan))
+    (same_Some other _ is) (record {
+      group = group;
+      is = refl;
+      sound = record { bounds = subst AreLimits same (bounds refl); scalars = scalars };
+      makes = makes;
+      knows = knows;
+    })
 
 pub leaves-undone : {limits : LimitTable} {old : Parts} {state : State} {document : Document} {place slot : ℕ}
     {group : List Action} → CanRevert old document place slot

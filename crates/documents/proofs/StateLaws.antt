@@ -15,7 +15,7 @@ use Rattle.documents.proofs.Common.{whole, widget_of, keys_between, keys_or, wit
 use Rattle.documents.proofs.Common.{with_texts, without_cells, without_span, AreKnown, HasKnownSlots, HasOwnMarks}
 use Rattle.documents.proofs.Common.{IsSeated, Stands, Keys, keyed, keys_of, eqb-true, Bool, option_map, ◌==◌}
 use Rattle.documents.proofs.Common.{keyed-inserted, keyed-removed, keyed-shared, IsKnownPiece, known-inserted}
-use Rattle.documents.proofs.Common.{known-put, characters-keyed}
+use Rattle.documents.proofs.Common.{known-put, characters-keyed, EditedText, log_of}
 use Rattle.text_model.specs.declared.edits.Step.TheVariants.{Insert}
 use Rattle.text_model.proofs.StepLaws.{MarksStand-after_step}
 use Rattle.edit_ops.specs.Insertions.{total}
@@ -406,6 +406,15 @@ pub stands-unedited : {parts : Parts} {document : Document} {content : Content} 
 stands-unedited {parts} {document} stands same past held =
     subst (λ (state : State). Stands (with_state parts state) document)
     (λ i. state_of (sym same i) (sym held i) (sym past i)) stands
+
+-- the same of a text that is as a plan left it
+pub stands-kept : {S P : Type 0} (content : S → Content) {parts : Parts} {document : Document}
+    {text done : EditedText S P} → Stands parts document → (content text.store ≡ parts.content)
+    × (log_of text.history ≡ parts.journal.log) × (text.anchors.items ≡ parts.journal.anchors) → done ≡ text
+    → Stands (with_state parts (state_of (content done.store) done.anchors.items (log_of done.history))) document
+stands-kept content {parts} {document} stands same left =
+    subst (λ text. Stands (with_state parts (state_of (content text.store) text.anchors.items (log_of text.history)))
+    document) (sym left) (stands-unedited stands same.0 same.1 same.2)
 
 pub anchors-stand : {parts : Parts} {document : Document} → Stands parts document →
     All (AnchorsStand (length parts.content.cells)) parts.journal.anchors

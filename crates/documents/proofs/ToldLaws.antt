@@ -1,7 +1,7 @@
 -- What is told of a command beforehand is what it makes of the text and of its tags.
-use Rattle.documents.proofs.Common.{◌≡◌, [], refl, sym, ap, ◌∙◌, subst, LimitTable, Empty, Document, Change, Foretells}
-use Rattle.documents.proofs.Common.{TellsCells, EditTold, ◌≢◌, Ok, Err, Memory, Does, is_ok, Result, Fault, answered}
-use Rattle.documents.proofs.Common.{IsErr, IsErrAnd, reply_of, of_tags, still-tells}
+use Rattle.documents.proofs.Common.{◌≡◌, sym, ap, ◌∙◌, subst, LimitTable, Empty, Document, Change, Foretells}
+use Rattle.documents.proofs.Common.{TellsCells, EditTold, ◌≢◌, Ok, Err, Memory, Does, is_ok, Result, Fault, IsErr}
+use Rattle.documents.proofs.Common.{IsErrAnd, reply_of, Bool, Parts, Stands, document_of, IsTold, IfOk-from_err}
 use Rattle.documents.proofs.ChangeLaws.{does-left}
 
 -- what was foretold of a command is told of it once it is answered
@@ -23,8 +23,15 @@ does-refused (Ok told) is memory same = absurd is.1
 does-refused {limits} {old} {new} {change} (Err fault) is memory same =
     does-left limits old new fault change same (λ other. absurd (other (is.1 ∙ memory)))
 
-pub told-idle : (document : Document) (change : Change) {told : EditTold} → change ≡ answered document Empty →
-    told ≡ of_tags [] → TellsCells change.edits document.cells document.cells told
-told-idle document change {told} is nothing =
-    subst (λ edits. TellsCells edits document.cells document.cells told) (sym (ap (λ (c : Change). c.edits) is))
-    (subst (TellsCells [] document.cells document.cells) (sym nothing) (still-tells document.cells document.cells refl))
+-- by parts that stand as before
+pub left-refused : {limits : LimitTable} {parts : Parts} {document : Document} {change : Change} {wanted : Fault}
+    {follows : Bool} (result : Result EditTold Fault) → IsErr result × IsErrAnd result (λ fault. fault ≡ wanted)
+    → wanted ≡ Memory → Stands parts document
+    → record {
+      does : Does limits document (document_of parts) (reply_of result) change;
+      told : IsTold follows change document (document_of parts) result;
+    }
+left-refused result is memory stands = record {
+  does = does-refused result is memory stands.is;
+  told = λ _. IfOk-from_err result _ is.0;
+}

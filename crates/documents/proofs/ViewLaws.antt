@@ -7,7 +7,7 @@ use Rattle.documents.proofs.Common.{Content, flags, IsLineStart, IsView, known_t
 use Rattle.documents.proofs.Common.{Document, KeyedCell, Parts, Widget, anchors_at, whole, widget_at, Key, key_named}
 use Rattle.documents.proofs.Common.{Stands, is_idle, shown, shown_flags, view_end, view_start, length-drop, Bool, ◌||◌}
 use Rattle.documents.proofs.Common.{◌==◌, None, Option, Some, get_or, keyed-flags}
-use Rattle.documents.proofs.PartsLaws.{Sits, cells-kept, characters-kept, sits}
+use Rattle.documents.proofs.PartsLaws.{Sits, anchors-there, cells-kept, characters-kept, sits}
 use Rattle.std.specs.FinSet as set
 use Rattle.text_model.specs.Content as model
 use Rattle.text_index.specs.Views as view
@@ -229,3 +229,13 @@ module _ {parts : Parts} {document : Document} {place slot : ℕ} {content : Con
 
   pub end-found-is : behind ≡ view_end document (widget_at document place)
   end-found-is = seen.ends ∙ sym (end-is parts document place slot seen.stands seen.sits)
+
+-- what the view of a widget asks
+pub view-there : {parts : Parts} {document : Document} {own : ℕ} {anchors : List Anchors} (place : ℕ)
+    → Stands parts document → slice_get (numbers_of parts.seats.entries) place ≡ Some own
+    → anchors ≡ parts.journal.anchors
+    → record { slot : own < length anchors; lines : IsView (part_between parts.content anchors own) }
+view-there place stands number found = record {
+  slot = anchors-there place stands number found;
+  lines = view-found (see-part {place = place} stands number found refl);
+}

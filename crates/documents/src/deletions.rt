@@ -14,8 +14,8 @@ use crate::callers::Caller;
 use crate::documents::Document;
 use crate::views::{end_of, start_of};
 use command_effects::{Fault, Pair, plan_replacement, spans_of};
-use edit_ops::{Target, commit, plan_delete};
-use reports::{EditTold, report};
+use edit_ops::{Target, plan_delete};
+use reports::{EditTold, carry_out, carry_out_tagged};
 use text_model::{MarkNo, TagSlot, TextStore};
 
 impl<S: TextStore> Document<S> {
@@ -39,11 +39,8 @@ impl<S: TextStore> Document<S> {
         let end = end_of(&self.text.anchors, slot, self.text.store.len());
         let spans = spans_of(self.alloc, start, end - start, places)?;
         let rules = caller.rules(self.alloc, self.settings);
-        let mut plan = plan_delete(&rules, &mut self.text, start, end, &spans)?;
-        let delta = plan.delta.take();
-        let told = report(self.alloc, &self.seats, &self.tags, &self.text.store, delta)?;
-        commit(plan, &mut self.text);
-        Ok(told)
+        let plan = plan_delete(&rules, &mut self.text, start, end, &spans)?;
+        Ok(carry_out(self.alloc, &self.seats, &self.tags, &mut self.text, plan)?)
     }
 
     /// Replaces the characters between two places by texts, and makes the tags of their lists. The end of the
@@ -86,23 +83,13 @@ impl<S: TextStore> Document<S> {
             target,
             pairs,
         );
-        let mut plan = match planned {
-            Ok(plan) => plan,
-            Err(fault) => {
-                self.tags.truncate(front);
-                return Err(fault);
-            }
-        };
-        let delta = plan.delta.take();
-        match report(self.alloc, &self.seats, &self.tags, &self.text.store, delta) {
-            Ok(told) => {
-                commit(plan, &mut self.text);
-                Ok(told)
-            }
-            Err(_) => {
-                self.tags.truncate(front);
-                Err(Fault::Memory)
-            }
-        }
+        carry_out_tagged(
+            self.alloc,
+            &self.seats,
+            &mut self.tags,
+            front,
+            &mut self.text,
+            planned,
+        )
     }
 }

@@ -1,20 +1,21 @@
 //! The modified flag of a document, and its undo, redo, separators and reset.
 
-ghost use Rattle.std.specs.Prelude.{◌≡◌, ◌<◌, length, Ok};
+ghost use Rattle.std.specs.Prelude.{◌≡◌, ◌<◌, ◌&&◌, ◌||◌, not, length, Ok};
 ghost use Rattle.text_model.specs.LimitTable.{LimitTable};
 ghost use Rattle.documents.specs.Documents.{widget_at};
 ghost use Rattle.documents.specs.History.{can_redo, can_undo};
 ghost use Rattle.documents.specs.History.{edit_redo, edit_reset, edit_separator, edit_undo, modified_set};
 ghost use Rattle.documents.specs.Promise.{Does};
 ghost use Rattle.documents.specs.Told.{reply_of, IsTold};
+ghost use Rattle.documents.specs.Views.{is_idle};
 ghost use Rattle.documents.specs.WellFormed.{IsWellFormedDocument};
 ghost use Rattle.undo_stack.specs.Modified.{is_modified};
 
 use crate::callers::Caller;
 use crate::documents::Document;
 use command_effects::{Answer, Fault};
-use edit_ops::{commit, plan_redo, plan_undo};
-use reports::{EditTold, report};
+use edit_ops::{plan_redo, plan_undo};
+use reports::{EditTold, carry_out};
 use text_model::{MarkNo, TextStore};
 
 impl<S: TextStore> Document<S> {
@@ -69,6 +70,15 @@ impl<S: TextStore> Document<S> {
 }
 
 impl<S: TextStore> Document<S> {
+    /// Whether `edit undo` or `edit redo` leaves the text as it is, though it may find a group: no actions are kept, or
+    /// the widget is idle.
+    fn reverts_nothing(&self, seat: usize, found: bool) -> bool
+        requires { seat < length self.now.widgets }
+        ensures { result ≡ (not self.now.undo || (found && is_idle self.now (widget_at self.now seat))) }
+    {
+        !self.settings.undo || found && self.is_idle(seat)
+    }
+
     /// `W edit undo` (text(n), "edit undo"). Returns what that changes.
     pub fn edit_undo(&mut self, caller: &Caller<'_>) -> Result<EditTold, Fault>
         requires shown { caller.now.seat < length self.old.widgets }
@@ -78,24 +88,16 @@ impl<S: TextStore> Document<S> {
         ensures told { IsTold caller.now.follows (edit_undo self.old (widget_at self.old caller.now.seat))
             self.old self.new result }
     {
-        if !self.settings.undo {
-            return Ok(EditTold::nothing(self.alloc));
-        }
-        if self.is_idle(caller.seat) {
-            if self.text.history.last_undo().is_none() {
-                return Err(Fault::NothingToUndo);
-            }
+        let found = self.text.history.last_undo().is_some();
+        if self.reverts_nothing(caller.seat, found) {
             return Ok(EditTold::nothing(self.alloc));
         }
         let rules = caller.rules(self.alloc, self.settings);
         let insert = MarkNo(2 * self.seats.number(caller.seat));
-        let Some(mut plan) = plan_undo(&rules, &mut self.text, insert)? else {
+        let Some(plan) = plan_undo(&rules, &mut self.text, insert)? else {
             return Err(Fault::NothingToUndo);
         };
-        let delta = plan.delta.take();
-        let told = report(self.alloc, &self.seats, &self.tags, &self.text.store, delta)?;
-        commit(plan, &mut self.text);
-        Ok(told)
+        Ok(carry_out(self.alloc, &self.seats, &self.tags, &mut self.text, plan)?)
     }
 
     /// `W edit redo` (text(n), "edit redo"). Returns what that changes.
@@ -107,23 +109,15 @@ impl<S: TextStore> Document<S> {
         ensures told { IsTold caller.now.follows (edit_redo self.old (widget_at self.old caller.now.seat))
             self.old self.new result }
     {
-        if !self.settings.undo {
-            return Ok(EditTold::nothing(self.alloc));
-        }
-        if self.is_idle(caller.seat) {
-            if self.text.history.last_redo().is_none() {
-                return Err(Fault::NothingToRedo);
-            }
+        let found = self.text.history.last_redo().is_some();
+        if self.reverts_nothing(caller.seat, found) {
             return Ok(EditTold::nothing(self.alloc));
         }
         let rules = caller.rules(self.alloc, self.settings);
         let insert = MarkNo(2 * self.seats.number(caller.seat));
-        let Some(mut plan) = plan_redo(&rules, &mut self.text, insert)? else {
+        let Some(plan) = plan_redo(&rules, &mut self.text, insert)? else {
             return Err(Fault::NothingToRedo);
         };
-        let delta = plan.delta.take();
-        let told = report(self.alloc, &self.seats, &self.tags, &self.text.store, delta)?;
-        commit(plan, &mut self.text);
-        Ok(told)
+        Ok(carry_out(self.alloc, &self.seats, &self.tags, &mut self.text, plan)?)
     }
 }

@@ -12,8 +12,7 @@ use crate::documents::Document;
 use crate::indices::at_position;
 use crate::views::view_of;
 use command_effects::{Fault, Pair, plan_pairs};
-use edit_ops::commit;
-use reports::{EditTold, report};
+use reports::{EditTold, carry_out_tagged};
 use std::alloc::AllocError;
 use text_index::{Names, locate};
 use text_model::{TagSlot, Text, TextStore};
@@ -88,23 +87,13 @@ impl<S: TextStore> Document<S> {
         let front = self.tags.len();
         let rules = caller.rules(self.alloc, self.settings);
         let planned = plan_pairs(&rules, &mut self.tags, slot, &mut self.text, at, pairs);
-        let mut plan = match planned {
-            Ok(plan) => plan,
-            Err(fault) => {
-                self.tags.truncate(front);
-                return Err(fault);
-            }
-        };
-        let delta = plan.delta.take();
-        match report(self.alloc, &self.seats, &self.tags, &self.text.store, delta) {
-            Ok(told) => {
-                commit(plan, &mut self.text);
-                Ok(told)
-            }
-            Err(_) => {
-                self.tags.truncate(front);
-                Err(Fault::Memory)
-            }
-        }
+        carry_out_tagged(
+            self.alloc,
+            &self.seats,
+            &mut self.tags,
+            front,
+            &mut self.text,
+            planned,
+        )
     }
 }

@@ -14,6 +14,7 @@ pub use Rattle.edit_ops.proofs.RunLaws.{inside, inside-before, inside-behind, in
 pub use Rattle.edit_ops.specs.Deletions.{in_spans}
 pub use Rattle.edit_ops.specs.Deltas.{IsDelta, IsLostRun, KnowsDelta, bared, hunks_made, lost_run}
 pub use Rattle.edit_ops.specs.SlotRuns.{AreBareRuns, IsBareRun, bare_cells, slotted, with_slots}
+pub use Rattle.edit_ops.specs.States.{Log, State}
 pub use Rattle.edit_ops.specs.Tagging.{SpanFits, cell_without, tagged, without}
 pub use Rattle.edit_ops.specs.Told.{AreExact, AreHunks, AreHunksOf, Tells, hunk_changes, patched, patched_by}
 pub use Rattle.edit_ops.specs.declared.slot_runs.SlotRun.{SlotRun}

@@ -5,9 +5,8 @@ use Rattle.reports.proofs.Common.{Action, AreHunksOf, bare_cells, slotted, Tells
 use Rattle.reports.proofs.Common.{map-patched, SlotRun, AreSeats, AreTags, Tags, Key, key_pairs, keyed, untagged}
 use Rattle.reports.proofs.Common.{KeyedCell, TellsCells, TellsTags, TagChange, EditTold, bare, false, Bool, AreHunks}
 use Rattle.reports.proofs.Common.{Box, box_value, IfSome, Content, IsDelta, IsLostRun, KnowsDelta, bared, hunks_made}
-use Rattle.reports.proofs.Common.{lost_run, AreBareRuns, is_turned, AreGapped, AreRising, TellsRuns}
+use Rattle.reports.proofs.Common.{lost_run, AreBareRuns, is_turned, AreGapped, AreRising, TellsRuns, Log, State}
 use Rattle.edit_ops.specs.declared.anchors.Anchors.{Anchors}
-use Rattle.edit_ops.specs.States.{Log, State}
 use Rattle.edit_ops.specs.Plans.{planned}
 use Rattle.edit_ops.specs.declared.plans.Effects.{Effects}
 use Rattle.edit_ops.specs.declared.deltas.Delta.{Delta}
@@ -102,20 +101,14 @@ module _ (seats : List Named) (table : Tags) (seated : AreSeats seats) (sound : 
 
 -- ---- what is known of a plan's delta
 
--- its hunks are of the old text
-pub known-stand : {Z : Type 0} (follows : Bool) (actions : List Action) (old new : List Cell)
-    (delta : Option (Box Delta Z)) → KnowsDelta follows actions old new delta
-    → IfSome delta (λ delta. AreHunks 0 (length old) (box_value delta).hunks.items)
-known-stand follows actions old new None knows = tt
-known-stand follows actions old new (Some delta) knows = knows.1.exact.stand
-
--- the same of a delta that is taken out of a plan
-pub taken-stand : {Z : Type 0} (follows : Bool) (actions : List Action) (old new : List Cell)
-    {kept taken : Option (Box Delta Z)} {cells : List Cell} → KnowsDelta follows actions old new kept → taken ≡ kept
-    → cells ≡ old → IfSome taken (λ delta. AreHunks 0 (length cells) (box_value delta).hunks.items)
-taken-stand follows actions old new {taken = taken} knows is same =
-    subst (λ (cells : List Cell). IfSome taken (λ delta. AreHunks 0 (length cells) (box_value delta).hunks.items))
-    (sym same) (known-stand follows actions old new taken (subst (KnowsDelta follows actions old new) (sym is) knows))
+-- its hunks are of the text, which is as it was before the plan was made
+pub known-stand : {Z : Type 0} (follows : Bool) (actions : List Action) (new : List Cell) {old cells : List Cell}
+    (delta : Option (Box Delta Z)) → cells ≡ old → KnowsDelta follows actions old new delta
+    → IfSome delta (λ delta. AreHunks 0 (length cells) (box_value delta).hunks.items)
+known-stand follows actions new None same knows = tt
+known-stand follows actions new (Some delta) same knows =
+    subst (λ (cells : List Cell). AreHunks 0 (length cells) (box_value delta).hunks.items) (sym same)
+    knows.1.exact.stand
 
 -- ---- plans that are carried out
 
@@ -127,18 +120,15 @@ planned-made effects {outcome} {anchors} {before} {log} {past} {new} {made} is s
     is ∙ ap₂ (planned effects outcome) same kept ∙ leads
 
 -- what is reported of it, to a caller who follows
-pub told-planned : {Z : Type 0} (pairs : List (ℕ × Key)) {taken delta : Option (Box Delta Z)} {follows : Bool}
-    {done actions : List Action} {old middle new outcome : List Cell} {cells : List KeyedCell} {told : EditTold}
-    → ((actions : List Action) (cells : List Cell) → KnowsDelta true actions middle cells taken
-    → TellsCells actions (keyed pairs middle) (keyed pairs cells) told)
-    → taken ≡ delta → middle ≡ old → new ≡ outcome → follows ≡ true → done ≡ actions
-    → KnowsDelta follows done old outcome delta → keyed pairs old ≡ cells
-    → TellsCells actions cells (keyed pairs new) told
-told-planned {Z} pairs {taken} {delta} {follows} {done} {actions} {old} {middle} {new} {outcome} {cells} {told} tells is
-    same made asked are knows kept =
+pub told-planned : {Z : Type 0} (pairs : List (ℕ × Key)) (delta : Option (Box Delta Z)) (outcome new : List Cell)
+    {follows : Bool} {done actions : List Action} {old middle : List Cell} {cells : List KeyedCell} {told : EditTold}
+    → ((actions : List Action) → KnowsDelta true actions middle outcome delta
+    → TellsCells actions (keyed pairs middle) (keyed pairs new) told)
+    → middle ≡ old → follows ≡ true → done ≡ actions → KnowsDelta follows done old outcome delta
+    → keyed pairs old ≡ cells → TellsCells actions cells (keyed pairs new) told
+told-planned pairs delta outcome new {follows} {done} {actions} {old} {middle} {cells} {told} tells same asked are knows
+    kept =
     subst (λ cs. TellsCells actions cs (keyed pairs new) told) (ap (keyed pairs) same ∙ kept)
-    (tells actions new (subst (λ cs. KnowsDelta true actions cs new taken) (sym same)
-    (subst (λ cs. KnowsDelta true actions old cs taken) (sym made)
-    (subst (λ done. KnowsDelta true done old outcome taken) are
-    (subst (λ follows. KnowsDelta follows done old outcome taken) asked
-    (subst (KnowsDelta follows done old outcome) (sym is) knows))))))
+    (tells actions (subst (λ cs. KnowsDelta true actions cs outcome delta) (sym same)
+    (subst (λ done. KnowsDelta true done old outcome delta) are
+    (subst (λ follows. KnowsDelta follows done old outcome delta) asked knows))))

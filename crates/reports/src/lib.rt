@@ -10,4 +10,4 @@ mod told;
 pub use keys::Key;
 pub use tag_lists::{TagChange, TagList};
 pub use tags_gone::tell_gone;
-pub use told::{EditTold, report};
+pub use told::{EditTold, carry_out, carry_out_tagged};

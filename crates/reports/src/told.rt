@@ -1,7 +1,11 @@
-//! Reports of commands that edit the text.
+//! Reports of commands that edit the text, and plans that are committed with their reports.
 
-ghost use Rattle.std.specs.Prelude.{◌≡◌, ◌≤◌, ◌<◌, ◌^◌, true, length, [], List, IfOk, IfSome};
-ghost use Rattle.std.specs.Prelude.{box_value};
+ghost use Rattle.std.specs.Prelude.{◌≡◌, ◌≢◌, ◌≤◌, ◌<◌, ◌^◌, true, length, take, [], List, IfOk, IfErr, IfSome, OnOk};
+ghost use Rattle.std.specs.Prelude.{box_value, IsOk, OnErr, Err, Some};
+ghost use Rattle.tag_table.specs.Tags.{sel, slot_of};
+ghost use Rattle.command_effects.specs.declared.answers.Fault.TheVariants.{Memory};
+ghost use Rattle.edit_ops.specs.Plans.{planned, HasRoomFor};
+ghost use Rattle.edit_ops.specs.States.{log_of, state_in};
 ghost use Rattle.tag_table.specs.Tags.{AreTags};
 ghost use Rattle.text_model.specs.declared.cells.Cell.{Cell};
 ghost use Rattle.text_model.specs.declared.limits.TheConstants.Limits.{MOST_WIDGETS};
@@ -15,7 +19,8 @@ ghost use Rattle.reports.specs.Told.{TellsCells};
 
 use crate::tag_lists::TagList;
 use crate::tag_runs::push_runs;
-use edit_ops::{ChangeList, Delta, tell};
+use command_effects::Fault;
+use edit_ops::{ChangeList, Delta, EditedText, Plan, commit, tell};
 use name_list::NameList;
 use std::alloc::{AllocError, Global};
 use tag_table::TagTable;
@@ -50,7 +55,7 @@ impl EditTold {
 /// Returns the report of a delta of a store's text, by the keys that the seats and the tags give its slots; an empty
 /// one if there is none. It is made before the plan of the delta is carried out: where an allocation fails, all is as
 /// it was.
-pub fn report<S: TextStore>(
+fn report<S: TextStore>(
     alloc: Global,
     seats: &NameList,
     tags: &TagTable,
@@ -87,4 +92,112 @@ pub fn report<S: TextStore>(
         changes,
         tags: list,
     })
+}
+
+/// Carries out a plan, and returns the report of its delta, by the keys that the seats and the tags give its slots. If
+/// an allocation fails, the text is as it was.
+pub fn carry_out<S: TextStore>(
+    alloc: Global,
+    seats: &NameList,
+    tags: &TagTable,
+    text: &mut EditedText<S>,
+    plan: Plan<S>,
+) -> Result<EditTold, AllocError>
+    requires limit { seats.now.limit ≡ MOST_WIDGETS }
+    requires seated { AreSeats seats.now.entries }
+    requires sound { AreTags tags.now }
+    requires short { length (S.content text.old.store).cells ≤ 2 ^ 60 }
+    requires stand { IfSome plan.delta
+        (λ delta. AreHunks 0 (length (S.content text.old.store).cells) (box_value delta).hunks.items) }
+    requires ready { S.ready text.old.store plan.prepared }
+    requires room { HasRoomFor plan.effects text.old.history }
+    ensures made { OnOk result (state_in S.content text.new
+        ≡ planned plan.effects (S.outcome text.old.store plan.prepared) text.old.anchors.items
+        (log_of text.old.history)) }
+    ensures told { IfOk result (λ told. (actions : List Action) →
+        KnowsDelta true actions (S.content text.old.store).cells (S.outcome text.old.store plan.prepared).cells
+        plan.delta →
+        let pairs = key_pairs seats.now.entries tags.now.tags in
+        TellsCells actions (keyed pairs (S.content text.old.store).cells) (keyed pairs (S.content text.new.store).cells)
+        told) }
+    ensures refused { OnErr result (text.new ≡ text.old) }
+{
+    let mut plan = plan;
+    let delta = plan.delta.take();
+    let told = report(alloc, seats, tags, &text.store, delta)?;
+    commit(plan, text);
+    Ok(told)
+}
+
+/// Carries out the plan of an edit, if it was made, and returns its report. Otherwise the text is as it was.
+fn carry_out_made<S: TextStore>(
+    alloc: Global,
+    seats: &NameList,
+    tags: &TagTable,
+    text: &mut EditedText<S>,
+    made: Result<Plan<S>, Fault>,
+) -> Result<EditTold, Fault>
+    requires limit { seats.now.limit ≡ MOST_WIDGETS }
+    requires seated { AreSeats seats.now.entries }
+    requires sound { OnOk made (AreTags tags.now) }
+    requires short { length (S.content text.old.store).cells ≤ 2 ^ 60 }
+    requires stand { IfOk made (λ plan. IfSome plan.delta
+        (λ delta. AreHunks 0 (length (S.content text.old.store).cells) (box_value delta).hunks.items)) }
+    requires ready { IfOk made (λ plan. S.ready text.old.store plan.prepared) }
+    requires room { IfOk made (λ plan. HasRoomFor plan.effects text.old.history) }
+    ensures made { OnOk result (IfOk made (λ plan. state_in S.content text.new
+        ≡ planned plan.effects (S.outcome text.old.store plan.prepared) text.old.anchors.items
+        (log_of text.old.history))) }
+    ensures told { IfOk result (λ told. IfOk made (λ plan. (actions : List Action) →
+        KnowsDelta true actions (S.content text.old.store).cells (S.outcome text.old.store plan.prepared).cells
+        plan.delta →
+        let pairs = key_pairs seats.now.entries tags.now.tags in
+        TellsCells actions (keyed pairs (S.content text.old.store).cells) (keyed pairs (S.content text.new.store).cells)
+        told)) }
+    ensures planned { OnOk result (IsOk made) }
+    ensures refused { OnErr result (text.new ≡ text.old) }
+    ensures fault { IfErr result (λ fault. fault ≢ Memory → made ≡ Err fault) }
+{
+    Ok(carry_out(alloc, seats, tags, text, made?)?)
+}
+
+/// Carries out the plan of an edit, if it was made, and returns its report. Otherwise the text is as it was, and the
+/// tags after the first `front`, which were made for the edit, are removed again.
+pub fn carry_out_tagged<S: TextStore>(
+    alloc: Global,
+    seats: &NameList,
+    tags: &mut TagTable,
+    front: usize,
+    text: &mut EditedText<S>,
+    made: Result<Plan<S>, Fault>,
+) -> Result<EditTold, Fault>
+    requires limit { seats.now.limit ≡ MOST_WIDGETS }
+    requires seated { AreSeats seats.now.entries }
+    requires sound { OnOk made (AreTags tags.old) }
+    requires kept { slot_of sel (take front tags.old.tags) ≡ Some 0 }
+    requires short { length (S.content text.old.store).cells ≤ 2 ^ 60 }
+    requires stand { IfOk made (λ plan. IfSome plan.delta
+        (λ delta. AreHunks 0 (length (S.content text.old.store).cells) (box_value delta).hunks.items)) }
+    requires ready { IfOk made (λ plan. S.ready text.old.store plan.prepared) }
+    requires room { IfOk made (λ plan. HasRoomFor plan.effects text.old.history) }
+    ensures made { OnOk result (IfOk made (λ plan. state_in S.content text.new
+        ≡ planned plan.effects (S.outcome text.old.store plan.prepared) text.old.anchors.items
+        (log_of text.old.history))) }
+    ensures told { IfOk result (λ told. IfOk made (λ plan. (actions : List Action) →
+        KnowsDelta true actions (S.content text.old.store).cells (S.outcome text.old.store plan.prepared).cells
+        plan.delta →
+        let pairs = key_pairs seats.now.entries tags.new.tags in
+        TellsCells actions (keyed pairs (S.content text.old.store).cells) (keyed pairs (S.content text.new.store).cells)
+        told)) }
+    ensures planned { OnOk result (IsOk made) }
+    ensures tags { OnOk result (tags.new ≡ tags.old) }
+    ensures back { OnErr result (tags.new ≡ record tags.old { tags = take front tags.old.tags }) }
+    ensures refused { OnErr result (text.new ≡ text.old) }
+    ensures fault { IfErr result (λ fault. fault ≢ Memory → made ≡ Err fault) }
+{
+    let carried = carry_out_made(alloc, seats, tags, text, made);
+    if carried.is_err() {
+        tags.truncate(front);
+    }
+    carried
 }

@@ -1,20 +1,15 @@
-use Rattle.documents.proofs.Common.{part_of, refl, ap, ◌∙◌, arith, list_text, dump_elements, seen_by, parts_of}
-use Rattle.documents.proofs.PartsLaws.{anchors-there, stand}
+use Rattle.documents.proofs.Common.{part_of, ap, ◌∙◌, arith, list_text, dump_elements, seen_by, parts_of}
+use Rattle.documents.proofs.PartsLaws.{stand}
 use Rattle.documents.proofs.QueryLaws.{spelled}
 use Rattle.documents.proofs.SeenLaws.{seen-found}
-use Rattle.documents.proofs.ViewLaws.{IsSeen, length-found, ordered-found, see-part, view-found}
+use Rattle.documents.proofs.ViewLaws.{IsSeen, length-found, ordered-found, see-part, view-there}
 use Rattle.documents.proofs.documents.Document.elements_of.Given.{Over}
 use Rattle.documents.proofs.documents.Document.elements_of.Goals.{After-lined-view}
 use Rattle.documents.proofs.documents.Document.elements_of.Goals as goal
 
-pub view_of-requires-clause-slot : goal.view_of-requires-clause-slot
-view_of-requires-clause-slot g c =
-    anchors-there c.args.seat (stand c.self.invariant c.self.view_is) c.number-slot.ensures.value c.deref.ensures.value
-
-pub view_of-requires-clause-lines : goal.view_of-requires-clause-lines
-view_of-requires-clause-lines g c =
-    view-found (see-part {place = c.args.seat} (stand c.self.invariant c.self.view_is) c.number-slot.ensures.value
-    c.deref.ensures.value refl)
+pub view_of-requires : goal.view_of-requires
+view_of-requires g c =
+    view-there c.args.seat (stand c.self.invariant c.self.view_is) c.number-slot.ensures.value c.deref.ensures.value
 
 -- the view of the widget
 seen : (g : Over) (c : After-lined-view g)

@@ -1,25 +1,20 @@
-use Rattle.documents.proofs.Common.{◌==◌, eq-eqb, nat_tests, arith, refl, ◌≡◌, Bool, true, false, get_or, Ok, Some, ◌∙◌}
-use Rattle.documents.proofs.Common.{sym, ap, subst, chars, widget_at, parts_of, place_of, is_idle, Gives, with_value}
+use Rattle.documents.proofs.Common.{◌==◌, eq-eqb, nat_tests, arith, ◌≡◌, Bool, true, false, get_or, Ok, Some, ◌∙◌, sym}
+use Rattle.documents.proofs.Common.{ap, subst, chars, widget_at, parts_of, place_of, is_idle, Gives, with_value}
 use Rattle.documents.proofs.Common.{place_at, insertion_at}
 use Rattle.documents.proofs.InsertionPlaceLaws.{at_place, faulted, gives-with, idle-found, inserted-within}
 use Rattle.documents.proofs.InsertionPlaceLaws.{none-inserted, some-inserted}
 use Rattle.documents.proofs.MeaningLaws.{gives-place, place-found}
-use Rattle.documents.proofs.PartsLaws.{anchors-there, sits, stand}
-use Rattle.documents.proofs.ViewLaws.{IsSeen, flag-at, see-part, view-found}
+use Rattle.documents.proofs.PartsLaws.{sits, stand}
+use Rattle.documents.proofs.ViewLaws.{IsSeen, flag-at, see-part, view-there}
 use Rattle.documents.proofs.documents.Document.insertion_at.Given.{Over}
 use Rattle.documents.proofs.documents.Document.insertion_at.Goals.{After-view_of-view, After-at_position, After-index}
 use Rattle.documents.proofs.documents.Document.insertion_at.Goals.{then-index-via-then-index}
 use Rattle.documents.proofs.documents.Document.insertion_at.Goals.{then-index-via-else-index+then-view}
 use Rattle.documents.proofs.documents.Document.insertion_at.Goals as goal
 
-pub view_of-view-requires-clause-slot : goal.view_of-view-requires-clause-slot
-view_of-view-requires-clause-slot g c =
-    anchors-there c.args.seat (stand c.self.invariant c.self.view_is) c.number-slot.ensures.value c.deref.ensures.value
-
-pub view_of-view-requires-clause-lines : goal.view_of-view-requires-clause-lines
-view_of-view-requires-clause-lines g c =
-    view-found (see-part {place = c.args.seat} (stand c.self.invariant c.self.view_is) c.number-slot.ensures.value
-    c.deref.ensures.value refl)
+pub view_of-view-requires : goal.view_of-view-requires
+view_of-view-requires g c =
+    view-there c.args.seat (stand c.self.invariant c.self.view_is) c.number-slot.ensures.value c.deref.ensures.value
 
 -- the view of the widget
 seen : (g : Over) (c : After-view_of-view g)

@@ -1,19 +1,14 @@
-use Rattle.documents.proofs.Common.{refl, length, ◌∙◌, chars, widget_at, parts_of, place_of, shown}
+use Rattle.documents.proofs.Common.{length, ◌∙◌, chars, widget_at, parts_of, place_of, shown}
 use Rattle.documents.proofs.MeaningLaws.{found-within, gives-place, place-found}
-use Rattle.documents.proofs.PartsLaws.{anchors-there, stand}
-use Rattle.documents.proofs.ViewLaws.{IsSeen, length-found, see-part, view-found}
+use Rattle.documents.proofs.PartsLaws.{stand}
+use Rattle.documents.proofs.ViewLaws.{IsSeen, length-found, see-part, view-there}
 use Rattle.documents.proofs.documents.Document.place_at.Given.{Over}
 use Rattle.documents.proofs.documents.Document.place_at.Goals.{After-view_of-view}
 use Rattle.documents.proofs.documents.Document.place_at.Goals as goal
 
-pub view_of-view-requires-clause-slot : goal.view_of-view-requires-clause-slot
-view_of-view-requires-clause-slot g c =
-    anchors-there c.args.seat (stand c.self.invariant c.self.view_is) c.number-slot.ensures.value c.deref.ensures.value
-
-pub view_of-view-requires-clause-lines : goal.view_of-view-requires-clause-lines
-view_of-view-requires-clause-lines g c =
-    view-found (see-part {place = c.args.seat} (stand c.self.invariant c.self.view_is) c.number-slot.ensures.value
-    c.deref.ensures.value refl)
+pub view_of-view-requires : goal.view_of-view-requires
+view_of-view-requires g c =
+    view-there c.args.seat (stand c.self.invariant c.self.view_is) c.number-slot.ensures.value c.deref.ensures.value
 
 -- the view of the widget
 seen : (g : Over) (c : After-view_of-view g)

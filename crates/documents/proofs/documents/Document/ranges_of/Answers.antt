@@ -1,9 +1,9 @@
-use Rattle.documents.proofs.Common.{part_of, refl, ap, ◌∙◌, chars, chars-nil, list_text, tag_ranges, range_words}
-use Rattle.documents.proofs.Common.{widget_at, parts_of, shown}
+use Rattle.documents.proofs.Common.{part_of, ap, ◌∙◌, chars, chars-nil, list_text, tag_ranges, range_words, widget_at}
+use Rattle.documents.proofs.Common.{parts_of, shown}
 use Rattle.documents.proofs.ListedLaws.{listed}
-use Rattle.documents.proofs.PartsLaws.{anchors-there, stand}
+use Rattle.documents.proofs.PartsLaws.{stand}
 use Rattle.documents.proofs.TaggedLaws.{flags-known, flags-unknown}
-use Rattle.documents.proofs.ViewLaws.{IsSeen, see-part, shown-found, view-found}
+use Rattle.documents.proofs.ViewLaws.{IsSeen, see-part, shown-found, view-there}
 use Rattle.documents.proofs.documents.Document.ranges_of.Given.{Over}
 use Rattle.documents.proofs.documents.Document.ranges_of.Goals.{After-view_of-view}
 use Rattle.text_index.specs.Views as view
@@ -16,15 +16,9 @@ returns-in_default g c =
     (tag_ranges flags))) (flags-unknown c.args.seat c.number-number.result
     (stand c.self.invariant c.self.view_is) (chars c.args.name.now) c.in_default.ensures.value)
 
-pub view_of-view-requires-clause-slot : goal.view_of-view-requires-clause-slot
-view_of-view-requires-clause-slot g c =
-    anchors-there c.args.seat (stand c.self.invariant c.self.view_is) c.number-number.ensures.value
-    c.deref.ensures.value
-
-pub view_of-view-requires-clause-lines : goal.view_of-view-requires-clause-lines
-view_of-view-requires-clause-lines g c =
-    view-found (see-part {place = c.args.seat} (stand c.self.invariant c.self.view_is) c.number-number.ensures.value
-    c.deref.ensures.value refl)
+pub view_of-view-requires : goal.view_of-view-requires
+view_of-view-requires g c =
+    view-there c.args.seat (stand c.self.invariant c.self.view_is) c.number-number.ensures.value c.deref.ensures.value
 
 -- the view of the widget
 seen : (g : Over) (c : After-view_of-view g)

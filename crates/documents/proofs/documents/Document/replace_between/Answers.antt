@@ -1,19 +1,15 @@
-use Rattle.documents.proofs.Common.{◌+◌, ◌-◌, ◌*◌, ap, sym, subst, LimitTable, ◌∙◌, arith, map, take, sel, slot_of}
-use Rattle.documents.proofs.Common.{log_of, Ok, Empty, state_of, piece_of, widget_at, parts_of, Stands, length, Content}
-use Rattle.documents.proofs.Common.{State, key_pairs, insertion_offset, refl, Memory, planned-made, taken-stand}
-use Rattle.documents.proofs.Common.{told-planned}
+use Rattle.documents.proofs.Common.{◌+◌, ◌-◌, ◌*◌, ap, ◌∙◌, arith, map, log_of, state_of, piece_of, widget_at, parts_of}
+use Rattle.documents.proofs.Common.{insertion_offset}
 use Rattle.edit_ops.specs.Removals.{replaced}
-use Rattle.documents.proofs.ChangeLaws.{Leaves, does-left, leaves-left}
-use Rattle.documents.proofs.InsertionLaws.{stands-back, with_tags}
+use Rattle.documents.proofs.InsertionLaws.{with_tags}
 use Rattle.documents.proofs.PartsLaws.{anchors-there, characters-kept, stand}
 use Rattle.documents.proofs.ReplacementLaws.{cut-at, leaves-replaced, replace-left, replaced_at}
 use Rattle.documents.proofs.StateLaws.{anchors-stand, state_in, with_state}
-use Rattle.documents.proofs.PlannedLaws.{keyed-before, replacement-edits}
+use Rattle.documents.proofs.PlannedLaws.{replacement-edits}
+use Rattle.documents.proofs.SettledLaws.{IsSettled, settled}
 use Rattle.documents.proofs.ViewLaws.{IsSeen, active-found, ends-found, length-found, ordered-found, see-ends}
 use Rattle.documents.proofs.documents.Document.replace_between.Given.{Over}
-use Rattle.documents.proofs.documents.Document.replace_between.Goals.{After-end_of-last, After-truncate, After-commit}
-use Rattle.documents.proofs.documents.Document.replace_between.Goals.{After-truncate-in-Err-report, in-Some-1}
-use Rattle.documents.proofs.documents.Document.replace_between.Goals.{in-None-2}
+use Rattle.documents.proofs.documents.Document.replace_between.Goals.{After-end_of-last, After-carry_out_tagged}
 use Rattle.documents.proofs.documents.Document.replace_between.Goals as goal
 
 pub start_of-start-requires : goal.start_of-start-requires
@@ -66,134 +62,48 @@ plan_replacement-planned-requires-clause-within g c =
 pub plan_replacement-planned-requires-clause-stand : goal.plan_replacement-planned-requires-clause-stand
 plan_replacement-planned-requires-clause-stand g c = anchors-stand (stand c.self.invariant c.self.view_is)
 
-pub truncate-requires : goal.truncate-requires
-truncate-requires g c =
-    ap (λ n. slot_of sel (take n c.plan_replacement-planned.new.tags.tags)) c.len-front.ensures.value
-    ∙ ap (slot_of sel) c.in-Err.ensures.front.tags ∙ c.len-front.ensures.sound.selection
-
--- nothing is left of a replacement for which there is no plan
-unplanned : (g : Over) (c : After-truncate g)
-    → Stands (with_state (with_tags c.truncate.new.self (parts_of g.S.TextStore.content c.self.inside)) (state_of
-    (g.S.TextStore.content c.plan_replacement-planned.new.text.store) c.plan_replacement-planned.new.text.anchors.items
-    (log_of c.plan_replacement-planned.new.text.history))) c.args.self.now
-unplanned g c =
-    let same = c.in-Err.ensures.same in
-    stands-back (stand c.self.invariant c.self.view_is) c.len-front.ensures.value c.in-Err.ensures.front
-    c.truncate.ensures same.0 same.1 same.2
-
-pub invariant_of-self : goal.invariant_of-self
-invariant_of-self g c = (unplanned g c).sound
-
-pub returns-in-Err-clause-does : goal.returns-in-Err-clause-does
-returns-in-Err-clause-does g c =
-    let sight = seen g (goal.at.returns-in-Err-clause-does g c).After-end_of-last in
-    let widget = widget_at c.args.self.now c.args.caller.now.seat in
-    (leaves-left (unplanned g c) (λ other.
-    ap (λ limits. replaced_at limits c.args.self.now widget c.args.from c.args.to c.args.pairs.items)
-    (sym c.rules-rules.ensures.limits)
-    ∙ replace-left c.rules-rules.result.limits.now c.args.from c.args.to c.args.pairs.items sight c.requires.active
-    (c.in-Err.ensures.fault other))).does
-
-pub report-requires-clause-seated : goal.report-requires-clause-seated
-report-requires-clause-seated g c = c.self.invariant.kept.seats
-
-pub report-requires-clause-sound : goal.report-requires-clause-sound
-report-requires-clause-sound g c = c.in-Ok.ensures.sound
-
-pub report-requires-clause-short : goal.report-requires-clause-short
-report-requires-clause-short g c =
-    let long = ap (λ (content : Content). length content.cells) c.in-Ok.ensures.same.0 in
-    let short = c.self.invariant.kept.short in
-    omega (arith, long, short)
-
-pub report-requires-clause-stand : goal.report-requires-clause-stand
-report-requires-clause-stand g c =
-    let plan = c.in-Ok.ensures in
-    taken-stand _ _ _ _ plan.delta c.take-delta.ensures.value (ap (λ (content : Content). content.cells) plan.same.0)
-
-pub commit-requires-clause-ready : goal.commit-requires-clause-ready
-commit-requires-clause-ready g c = c.in-Ok.ensures.ready
-
-pub commit-requires-clause-room : goal.commit-requires-clause-room
-commit-requires-clause-room g c = c.in-Ok.ensures.room
-
--- what is left where the texts are in place
-abbrev Left : (g : Over) (c : After-commit g) → LimitTable → Type 0
-Left g c limits =
-    Leaves limits (with_state (with_tags c.plan_replacement-planned.new.tags
-    (parts_of g.S.TextStore.content c.self.inside)) (state_of (g.S.TextStore.content c.commit.new.text.store)
-    c.commit.new.text.anchors.items (log_of c.commit.new.text.history))) c.args.self.now (Ok Empty)
-    (replaced_at limits c.args.self.now (widget_at c.args.self.now c.args.caller.now.seat) c.args.from c.args.to
-    c.args.pairs.items)
-
-left : (g : Over) (c : After-commit g) → Left g c c.args.caller.now.limits.now
-left g c =
-    let start = c.start_of-start.result in
-    let slot = c.number-slot.result in
-    let plan = c.in-Ok.ensures in
-    subst (Left g c) c.rules-rules.ensures.limits (leaves-replaced c.args.from c.args.to
-    (seen g (goal.at.returns-in-Ok-report-clause-does g c).After-end_of-last) c.requires.active c.requires.ordered
-    (record {
-      bounds = plan.bounds;
-      front = plan.front;
-      sound = plan.sound;
-      scalars = plan.scalars;
-      made = plan.made;
-      room = plan.fits;
-    })
-    (planned-made c.in-Ok.plan.effects c.commit.ensures plan.same.2 plan.same.1 plan.outcome
-    ∙ ap (λ recording. replaced recording (2 * slot) (c.end_of-last.result - 1) (start + c.args.from)
-    (start + c.args.to) (map (piece_of c.plan_replacement-planned.new.tags.tags slot) c.args.pairs.items)
-    (state_in (parts_of g.S.TextStore.content c.self.inside))) c.rules-rules.ensures.recording))
-
-pub invariant_of-self-in-Ok-report : goal.invariant_of-self-in-Ok-report
-invariant_of-self-in-Ok-report g c = (left g c).sound
-
-pub returns-in-Ok-report-clause-does : goal.returns-in-Ok-report-clause-does
-returns-in-Ok-report-clause-does g c = (left g c).does
-
-pub returns-in-Ok-report-clause-told : goal.returns-in-Ok-report-clause-told
-returns-in-Ok-report-clause-told g c = λ follows.
+-- what the replacement leaves and reports
+done : (g : Over) (c : After-carry_out_tagged g)
+    → IsSettled c.args.caller.now.limits.now (with_state (with_tags c.carry_out_tagged.new.tags
+    (parts_of g.S.TextStore.content c.self.inside)) (state_of (g.S.TextStore.content c.carry_out_tagged.new.text.store)
+    c.carry_out_tagged.new.text.anchors.items (log_of c.carry_out_tagged.new.text.history))) c.args.self.now
+    c.args.caller.now.follows c.carry_out_tagged.result (replaced_at c.args.caller.now.limits.now c.args.self.now
+    (widget_at c.args.self.now c.args.caller.now.seat) c.args.from c.args.to c.args.pairs.items)
+done g c =
     let document = c.args.self.now in
     let widget = widget_at document c.args.caller.now.seat in
+    let from = c.args.from in
+    let to = c.args.to in
+    let pairs = c.args.pairs.items in
     let parts = parts_of g.S.TextStore.content c.self.inside in
+    let start = c.start_of-start.result in
+    let slot = c.number-slot.result in
+    let sight = seen g (goal.at.invariant_of-self g c).After-end_of-last in
+    let active = c.requires.active in
+    let shows = active-found sight active in
+    let rules = c.rules-rules.ensures in
+    let limits = c.rules-rules.result.limits.now in
+    let plan = c.plan_replacement-planned.ensures in
     let tags = c.plan_replacement-planned.new.tags in
-    let plan = c.in-Ok.ensures in
-    let sight = seen g (goal.at.returns-in-Ok-report-clause-told g c).After-end_of-last in
-    let shows = active-found sight c.requires.active in
-    told-planned (key_pairs parts.seats.entries tags.tags) c.in-Ok-report.ensures c.take-delta.ensures.value
-    (ap (λ (content : Content). content.cells) plan.same.0)
-    (ap (λ (state : State). state.content.cells) c.commit.ensures)
-    (c.rules-rules.ensures.follows ∙ follows) (replacement-edits c.args.caller.now.limits.now document widget
-    (insertion_offset document widget c.args.from) (insertion_offset document widget c.args.to) c.args.pairs.items tags
-    c.number-slot.result parts.content.cells (characters-kept parts document c.self.view_is)
-    (cut-at c.args.from sight shows) (cut-at c.args.to sight shows) (left g c).does) plan.delta
-    (keyed-before (stand c.self.invariant c.self.view_is) plan.sound plan.front)
+    let did = c.carry_out_tagged.ensures in
+    settled g.S.TextStore.content _ (λ plan. plan.effects) _ _
+    (λ limits. replaced_at limits document widget from to pairs) _ _ c.plan_replacement-planned.result
+    c.carry_out_tagged.result (stand c.self.invariant c.self.view_is) c.len-front.ensures.value rules.limits rules.follows
+    plan.bounds plan.front plan.sound plan.scalars plan.made plan.fits plan.same plan.outcome plan.delta plan.fault
+    did.planned did.tags did.back did.refused did.fault did.made did.told
+    (λ fault. replace-left limits from to pairs sight active)
+    (λ listed is. leaves-replaced from to sight active c.requires.ordered listed
+    (is ∙ ap (λ recording. replaced recording (2 * slot) (c.end_of-last.result - 1) (start + from) (start + to)
+    (map (piece_of tags.tags slot) pairs) (state_in parts)) rules.recording))
+    (λ new. replacement-edits limits document widget (insertion_offset document widget from)
+    (insertion_offset document widget to) pairs tags slot parts.content.cells
+    (characters-kept parts document c.self.view_is) (cut-at from sight shows) (cut-at to sight shows))
 
--- nothing is left of one whose report couldn't be made
-unreported : (g : Over) (c : After-truncate-in-Err-report g)
-    → Stands (with_state (with_tags c.truncate-in-Err-report.new.self
-    (parts_of g.S.TextStore.content c.self.inside)) (state_of (g.S.TextStore.content c.plan_replacement-planned.new.text.store)
-    c.plan_replacement-planned.new.text.anchors.items (log_of c.plan_replacement-planned.new.text.history))) c.args.self.now
-unreported g c =
-    let plan = c.in-Ok.ensures in
-    stands-back (stand c.self.invariant c.self.view_is) c.len-front.ensures.value plan.front
-    c.truncate-in-Err-report.ensures plan.same.0 plan.same.1 plan.same.2
+pub invariant_of-self : goal.invariant_of-self
+invariant_of-self g c = (done g c).sound
 
-pub invariant_of-self-in-Err-report : goal.invariant_of-self-in-Err-report
-invariant_of-self-in-Err-report g c =
-    (unreported g (goal.at.invariant_of-self-in-Err-report g c).After-truncate-in-Err-report).sound
+pub returns-clause-does : goal.returns-clause-does
+returns-clause-does g c = (done g c).does
 
-pub invariant_of-self-in-Err-report-2 : goal.invariant_of-self-in-Err-report-2
-invariant_of-self-in-Err-report-2 g c =
-    (unreported g (goal.at.invariant_of-self-in-Err-report-2 g c).After-truncate-in-Err-report).sound
-
-pub returns-in-Err-report-clause-does : goal.returns-in-Err-report-clause-does
-returns-in-Err-report-clause-does g c =
-    let limits = c.args.caller.now.limits.now in
-    let document = c.args.self.now in
-    let same = (unreported g (goal.at.returns-in-Err-report-clause-does g c).After-truncate-in-Err-report).is in
-    elim c.match-plan-3.branch [
-      | in-Some-1 w ↦ does-left limits document c.match-plan-3.self Memory _ (w.self-is ∙ same) (λ other. absurd (other refl))
-      | in-None-2 w ↦ does-left limits document c.match-plan-3.self Memory _ (w.self-is ∙ same) (λ other. absurd (other refl))
-    ]
+pub returns-clause-told : goal.returns-clause-told
+returns-clause-told g c = (done g c).told

@@ -1,20 +1,15 @@
 use Rattle.documents.proofs.Common.{Part, ap, ◌≡◌, ◌-◌, length, refl, Ok, Err, IfOk, All, SpanFits, spans_of, widget_at}
 use Rattle.documents.proofs.Common.{parts_of, spans_shown}
-use Rattle.documents.proofs.PartsLaws.{anchors-there, stand}
+use Rattle.documents.proofs.PartsLaws.{stand}
 use Rattle.documents.proofs.SpanLaws.{places-within, spans-found}
-use Rattle.documents.proofs.ViewLaws.{IsSeen, see-ends, see-part, view-found}
+use Rattle.documents.proofs.ViewLaws.{IsSeen, see-ends, view-there}
 use Rattle.documents.proofs.documents.Document.spans_at.Given.{Over}
 use Rattle.documents.proofs.documents.Document.spans_at.Goals.{After-view_of-view}
 use Rattle.documents.proofs.documents.Document.spans_at.Goals as goal
 
-pub view_of-view-requires-clause-slot : goal.view_of-view-requires-clause-slot
-view_of-view-requires-clause-slot g c =
-    anchors-there c.args.seat (stand c.self.invariant c.self.view_is) c.number.ensures.value c.deref.ensures.value
-
-pub view_of-view-requires-clause-lines : goal.view_of-view-requires-clause-lines
-view_of-view-requires-clause-lines g c =
-    view-found (see-part {place = c.args.seat} (stand c.self.invariant c.self.view_is) c.number.ensures.value
-    c.deref.ensures.value refl)
+pub view_of-view-requires : goal.view_of-view-requires
+view_of-view-requires g c =
+    view-there c.args.seat (stand c.self.invariant c.self.view_is) c.number.ensures.value c.deref.ensures.value
 
 -- the view of the widget
 seen : (g : Over) (c : After-view_of-view g)

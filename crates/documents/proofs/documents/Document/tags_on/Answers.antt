@@ -1,23 +1,17 @@
-use Rattle.documents.proofs.Common.{refl, ap, ◌∙◌, arith, chars-nil, list_text, Tag, own_slot, widget_at, parts_of}
-use Rattle.documents.proofs.Common.{chars, filter, names_of}
+use Rattle.documents.proofs.Common.{ap, ◌∙◌, arith, chars-nil, list_text, Tag, own_slot, widget_at, parts_of, chars}
+use Rattle.documents.proofs.Common.{filter, names_of}
 use Rattle.documents.proofs.ListedLaws.{listed}
-use Rattle.documents.proofs.PartsLaws.{anchors-there, stand}
+use Rattle.documents.proofs.PartsLaws.{stand}
 use Rattle.documents.proofs.TaggedLaws.{tags_on-end, tags_on-known}
-use Rattle.documents.proofs.ViewLaws.{IsSeen, ends-found, length-found, ordered-found, see-part, view-found}
+use Rattle.documents.proofs.ViewLaws.{IsSeen, ends-found, length-found, ordered-found, see-part, view-there}
 use Rattle.documents.proofs.documents.Document.tags_on.Given.{Over}
 use Rattle.documents.proofs.documents.Document.tags_on.Goals.{After-view_of-view}
 use Rattle.std.specs.FinSet as set
 use Rattle.documents.proofs.documents.Document.tags_on.Goals as goal
 
-pub view_of-view-requires-clause-slot : goal.view_of-view-requires-clause-slot
-view_of-view-requires-clause-slot g c =
-    anchors-there c.args.seat (stand c.self.invariant c.self.view_is) c.number-number.ensures.value
-    c.deref.ensures.value
-
-pub view_of-view-requires-clause-lines : goal.view_of-view-requires-clause-lines
-view_of-view-requires-clause-lines g c =
-    view-found (see-part {place = c.args.seat} (stand c.self.invariant c.self.view_is) c.number-number.ensures.value
-    c.deref.ensures.value refl)
+pub view_of-view-requires : goal.view_of-view-requires
+view_of-view-requires g c =
+    view-there c.args.seat (stand c.self.invariant c.self.view_is) c.number-number.ensures.value c.deref.ensures.value
 
 -- the view of the widget
 seen : (g : Over) (c : After-view_of-view g)

@@ -1,19 +1,14 @@
-use Rattle.documents.proofs.Common.{refl, parts_of}
-use Rattle.documents.proofs.PartsLaws.{anchors-there, stand}
+use Rattle.documents.proofs.Common.{parts_of}
+use Rattle.documents.proofs.PartsLaws.{stand}
 use Rattle.documents.proofs.ViewLaws.{IsSeen, end-found-is, length-found, see-part, shown-found, start-found-is}
-use Rattle.documents.proofs.ViewLaws.{view-found}
+use Rattle.documents.proofs.ViewLaws.{view-there}
 use Rattle.documents.proofs.documents.Document.view_at.Given.{Over}
 use Rattle.documents.proofs.documents.Document.view_at.Goals.{After-view_of}
 use Rattle.documents.proofs.documents.Document.view_at.Goals as goal
 
-pub view_of-requires-clause-slot : goal.view_of-requires-clause-slot
-view_of-requires-clause-slot g c =
-    anchors-there c.args.seat (stand c.self.invariant c.self.view_is) c.number.ensures.value c.deref.ensures.value
-
-pub view_of-requires-clause-lines : goal.view_of-requires-clause-lines
-view_of-requires-clause-lines g c =
-    view-found (see-part {place = c.args.seat} (stand c.self.invariant c.self.view_is) c.number.ensures.value
-    c.deref.ensures.value refl)
+pub view_of-requires : goal.view_of-requires
+view_of-requires g c =
+    view-there c.args.seat (stand c.self.invariant c.self.view_is) c.number.ensures.value c.deref.ensures.value
 
 -- the view of the widget
 seen : (g : Over) (c : After-view_of g)
