@@ -18,7 +18,9 @@
 # make fuzz-library  calls the library at random under sanitizers, for SECONDS=600, from the seed FIRST=0
 # make tk         compares the program with Tk, if that is installed: docs/differences.md, indices and random scripts
 # make gate       runs the gate alone, from nothing, and measures its processor time on an otherwise idle machine
-# make bench      measures time and memory: docs/bench.txt, bench_lines.txt, bench_tree.txt, bench_library.txt
+# make bench      measures time and memory: docs/bench.txt, bench_lines.txt, bench_tree.txt
+# make library-bench  counts the instructions and allocations of library calls, next to Tk: docs/bench_library.txt;
+#                 needs valgrind, and for Tk tk8.6-dev and xvfb; TRY=1 only shows them, with the unproved library
 # make bench-python  measures Python's calls and tkinter's: docs/bench_python.txt; needs python3-tk and xvfb; TRY=1 only
 #                 shows them, with the unproved library
 # make versus     measures the program and Tk on tools/workloads.py: docs/performance.md and its pictures; needs Tk
@@ -140,6 +142,7 @@ test: $(SHIM) $(WEIGH)
 	  'python3 tools/manual.py --program $(PROGRAM)' \
 	  'python3 tools/tk.py --program $(PROGRAM)' \
 	  'python3 tools/library.py --build' \
+	  'python3 tools/library_bench.py --check' \
 	  'python3 tools/pages.py' \
 	  'python3 tools/mirror.py' \
 	  'python3 tools/editor_test.py' \
@@ -160,11 +163,13 @@ $(TREE_BENCH): $(SOURCES)
 	cd crates/tree_bench && rt run -- mixed 100 20 > /dev/null
 	@touch $@
 
-bench: $(PROGRAM) $(TREE_BENCH) $(WEIGH) $(ASKED) $(LIBRARY)
+bench: $(PROGRAM) $(TREE_BENCH) $(WEIGH) $(ASKED)
 	python3 tools/bench.py --program $(PROGRAM) --asked $(ASKED) --out docs/bench.txt
 	python3 tools/bench_lines.py --program $(TREE_BENCH) --out docs/bench_lines.txt
 	python3 tools/bench_tree.py --program $(TREE_BENCH) --shim $(WEIGH) --out docs/bench_tree.txt
-	python3 tools/library.py --bench docs/bench_library.txt
+
+library-bench: $(OUT)/libtktext.a
+	@python3 tools/library_bench.py --library $< $(if $(TRY),,--write)
 
 bench-python: python
 	@python3 tools/bench_python.py --module $(OUT)/python $(if $(TRY),,--out docs/bench_python.txt)
@@ -191,4 +196,4 @@ tk: $(PROGRAM)
 	python3 tools/tk.py --program $(PROGRAM) --scripts $(SEEDS) --first $(FIRST)
 
 .PHONY: help try try-lib run build lib python tcl man install uninstall dist examples check test fuzz \
-  fuzz-library bench bench-python versus orders counts gains gate tk
+  fuzz-library bench bench-python library-bench versus orders counts gains gate tk

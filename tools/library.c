@@ -5,8 +5,8 @@
        client uses            makes calls that a caller may get wrong
        client refusals        refuses growths by tools/refuse_calls.c to the calls that are written in C
        client edits words COUNT, client edits script COUNT
-                              so many lines put in, and each taken out again, by the words of the commands or by a script
-       client time COUNT      what such a command takes by its words and by a script, in nanoseconds of processor  */
+                              so many lines put in, and each taken out again, by the words of the commands or by a
+                              script  */
 
 #define _POSIX_C_SOURCE 200809L
 
@@ -15,7 +15,6 @@
 #include <stdio.h>
 #include <stdlib.h>
 #include <string.h>
-#include <time.h>
 
 static void *checked(void *block)
 {
@@ -598,14 +597,6 @@ static int try_uses(void)
     return failed != 0;
 }
 
-/* The seconds of processor so far. */
-static double seconds(void)
-{
-    struct timespec now;
-    clock_gettime(CLOCK_PROCESS_CPUTIME_ID, &now);
-    return (double)now.tv_sec + 1e-9 * (double)now.tv_nsec;
-}
-
 #define TEXT "a line of a text that is put in here"
 
 /* Ends the program where a call didn't do what it was to do. */
@@ -615,15 +606,14 @@ static void must(int32_t code)
         exit(3);
 }
 
-/* Puts so many lines in and takes each out again, by the words of the commands or by a script.  Gives the seconds of it. */
-static double edit_lines(long count, int by_words)
+/* Inserts `count` lines and deletes each, by the words of the commands or by a script. */
+static void edit_lines(long count, int by_words)
 {
     static const char script[] = ".t insert 1.0 {" TEXT "}\n.t delete 1.0 2.0\n";
     static const size_t insert[] = {2, 6, 3, sizeof TEXT - 1}, erase[] = {2, 6, 3, 3};
     tktext world = TKTEXT_EMPTY;
     must(tktext_new_greatest(&world));
     must(call(&world, "text.t", 4, 2));
-    double start = seconds();
     for (long number = 0; number < count; number++) {
         uint8_t room[16];
         if (by_words) {
@@ -639,9 +629,7 @@ static double edit_lines(long count, int by_words)
             }
         }
     }
-    double taken = seconds() - start;
     tktext_drop(&world);
-    return taken;
 }
 
 /* Fills a text with `count` lines, deletes it, and undoes that, with or without a report. */
@@ -656,21 +644,6 @@ static void undo_all(long count, bool is_told)
     must((is_told ? call_told : call_plain)(&world, ".teditundo", LENGTHS(2, 4, 4)));
     tktext_drop(&world);
     tktext_report_drop(&report);
-}
-
-/* The nanoseconds of one command: the lesser of three takes by the words and by a script, in turn. */
-static int time_both(long count)
-{
-    double words = 1e9, script = 1e9;
-    for (int take = 0; take < 3; take++) {
-        double now = edit_lines(count, 1);
-        words = now < words ? now : words;
-        now = edit_lines(count, 0);
-        script = now < script ? now : script;
-    }
-    double commands = 2.0 * (double)count;
-    printf("%.0f %.0f\n", 1e9 * words / commands, 1e9 * script / commands);
-    return 0;
 }
 
 int main(int count, char **words)
@@ -692,7 +665,5 @@ int main(int count, char **words)
         undo_all(strtol(words[3], NULL, 10), strcmp(words[2], "told") == 0);
         return 0;
     }
-    if (count == 3 && strcmp(words[1], "time") == 0)
-        return time_both(strtol(words[2], NULL, 10));
     return 2;
 }

@@ -2,7 +2,6 @@
 """Tries the library by real clients: C, Python and Tcl.
 
     python3 tools/library.py [--seeds 1000] [--build]
-    python3 tools/library.py --bench FILE         the time of a command alone, into a file
 
 out/libtktext.a and out/libtktext.so are what `make lib` makes; with `--build` they are made first, from the crates that a gate
 has just proved (tools/build_library.py).  Without a C compiler one line says so, and nothing is tried.
@@ -61,8 +60,8 @@ SMALL_EXTENSION = os.path.join(OUT, "small_tktext.so")
 FLAGS = ["-Wall", "-Wextra", "-O2", "-fPIC", "-I" + os.path.join(TOP, "include")]
 PIECES = (1, 7, 4096)
 LEAK_COMMANDS = 10_000
-# How many lines are put in and taken out for the time of a command, and for its instructions.
-TIMED_LINES, COUNTED_LINES = 100_000, 2_000
+# How many lines are put in and taken out for the instructions of a command.
+COUNTED_LINES = 2_000
 # The lines of a text that comes back, the bytes of each, and what its report may hold beside the text.
 UNDONE_LINES, LINE_BYTES, MOST_BESIDE = 100_000, 37, 1_000
 ENOUGH_FAILURES = 10
@@ -80,15 +79,11 @@ def source(*names):
     return os.path.join(TOP, *names)
 
 
-def compile_client():
-    subprocess.run(["cc", *FLAGS, "-o", CLIENT, source("tools", "library.c"), ARCHIVE], check=True)
-
-
 def compile_all(has_tcl):
     """The client, and the library with growths that can be refused, for Python and for Tcl."""
     refuses = ["-Wl,--wrap=malloc,--wrap=realloc", source("tools", "refuse_calls.c")]
-    compile_client()
     client = source("tools", "library.c")
+    subprocess.run(["cc", *FLAGS, "-o", CLIENT, client, ARCHIVE], check=True)
     subprocess.run(["cc", *FLAGS, *refuses, "-o", REFUSED_CLIENT, client, ARCHIVE], check=True)
     if build_python.can_build():
         build_python.build(PYTHON, ARCHIVE)
@@ -207,23 +202,6 @@ def check_report(tally):
     more = most_held("told") - most_held("plain")
     print(f"a report of an undo of {UNDONE_LINES} lines holds {more} bytes, {UNDONE_LINES * LINE_BYTES} of them text")
     tally.check(0 <= more - UNDONE_LINES * LINE_BYTES < MOST_BESIDE, f"a report of an undo holds {more} bytes")
-
-
-def write_times(file):
-    """What `make bench` does."""
-    compile_client()
-    output, _, _ = run([CLIENT, "time", str(TIMED_LINES)])
-    words, script = map(int, output.split())
-    text = f"""The library: nanoseconds of processor for a command that puts a line of 36 characters in at the front of a text or takes
-it out, with the call that gives what was said; the least of three takes of {2 * TIMED_LINES} commands each.
-
-by its words (tktext_call)               {words:6}
-by a script (tktext_feed, tktext_next)   {script:6}
-"""
-    with open(file, "w", encoding="ascii") as written:
-        written.write(text)
-    print(text, end="")
-    return 0
 
 
 # ---------------------------------------------------------------------------------------------------
@@ -724,14 +702,11 @@ def main():
     parser = argparse.ArgumentParser(description="tries the library by clients in C, Python and Tcl")
     parser.add_argument("--seeds", type=int, default=1_000)
     parser.add_argument("--build", action="store_true")
-    parser.add_argument("--bench", metavar="FILE")
     parser.add_argument("--python", action="store_true")
     parser.add_argument("--refuses", action="store_true")
     options = parser.parse_args()
     if options.python:
         return try_python(options.seeds, options.refuses)
-    if options.bench:
-        return write_times(options.bench)
     tally = Tally()
     if shutil.which("cc") is None:
         print("the library isn't tried: it wants a C compiler")
