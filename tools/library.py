@@ -60,7 +60,7 @@ SMALL_EXTENSION = os.path.join(OUT, "small_tktext.so")
 FLAGS = ["-Wall", "-Wextra", "-O2", "-fPIC", "-I" + os.path.join(TOP, "include")]
 PIECES = (1, 7, 4096)
 LEAK_COMMANDS = 10_000
-# How many lines are put in and taken out for the instructions of a command.
+# How many lines are inserted and deleted for the instructions of a command.
 COUNTED_LINES = 2_000
 # The lines of a text that comes back, the bytes of each, and what its report may hold beside the text.
 UNDONE_LINES, LINE_BYTES, MOST_BESIDE = 100_000, 37, 1_000

@@ -30,11 +30,10 @@ pub use Rattle.std.proofs.lemmas.List.Sums.{prefix_len-le-length, suffix_len-le-
 pub use Rattle.std.proofs.lemmas.List.Sums.{suffix_len-take_yes}
 pub use Rattle.std.proofs.lemmas.Option.{IfSome_then, slice_get-map, slice_get_past, slice_get_read}
 pub use Rattle.std.proofs.lemmas.Result.{on_ok_weaker}
-pub use Rattle.std.proofs.lemmas.Str.{IsAscii-drop, IsCharBoundary-end, IsCharBoundary-from_ascii}
-pub use Rattle.std.proofs.lemmas.Str.{IsCharBoundary-from_take, IsUtf8-append, IsUtf8-drop, IsUtf8-nil}
-pub use Rattle.std.proofs.lemmas.Str.{IsUtf8-string_bytes, IsUtf8-take, chars-IsAscii, chars-append, chars-nil}
-pub use Rattle.std.proofs.lemmas.Str.{chars_from_encodes, chars_past_char, encode_ascii, encodes-append, encodes-chars}
-pub use Rattle.std.proofs.lemmas.Str.{len_utf8_bounds, length-encode, length-le-encodes}
+pub use Rattle.std.proofs.lemmas.Str.{IsAscii-drop, IsCharBoundary-end, IsCharBoundary-from_ascii, IsUtf8-append}
+pub use Rattle.std.proofs.lemmas.Str.{IsUtf8-drop, IsUtf8-nil, IsUtf8-string_bytes, IsUtf8-take, chars-IsAscii}
+pub use Rattle.std.proofs.lemmas.Str.{chars-append, chars-nil, chars_from_encodes, chars_past_char, encode_ascii}
+pub use Rattle.std.proofs.lemmas.Str.{encodes-append, encodes-chars, len_utf8_bounds, length-encode, length-le-encodes}
 pub use Rattle.std.specs.Cmp.{booleans_Decides, eq_by_cmp_equiv, nat_cmp_is, nat_cmp_total, unsigned_tied}
 pub use Rattle.std.specs.FinMap.{find, is_sorted, nat_cmp-IsAntisymmetric, put}
 pub use Rattle.std.specs.FinMap.Entries.{below_all, by_order, find-where_key, is_sorted-put, is_sorted-where_key}

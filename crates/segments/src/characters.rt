@@ -42,44 +42,6 @@ fn has_more_room(text: &String) -> bool
 /// So many bytes of room beyond twice a text's length aren't given back.
 const SPARE: usize = 64;
 
-/// So many bytes after a change are moved one by one; where there are more, the text is copied at once.
-const NEAR: usize = 96;
-
-/// A copy of a text with another one in the place of the bytes from one to another. It has room for a few bytes more.
-fn copy_with(text: &String, from: usize, to: usize, new: &str) -> Result<String, AllocError>
-    requires ordered { from ≤ to }
-    requires front { IsCharBoundary (string_bytes text.now) from }
-    requires rest { IsCharBoundary (string_bytes text.now) to }
-    ensures { IfOk result (λ copy. string_bytes copy
-        ≡ (take from (string_bytes text.now) ++ new.now) ++ drop to (string_bytes text.now)) }
-{
-    let room = (text.len() - (to - from))
-        .saturating_add(new.len())
-        .saturating_add(MORE);
-    let mut copy = String::with_capacity(*text.allocator(), room)?;
-    copy.push_str(&text.as_str()[..from])?;
-    copy.push_str(new)?;
-    copy.push_str(&text.as_str()[to..])?;
-    Ok(copy)
-}
-
-/// Puts a text in the place of the bytes from one to another.
-fn replace_bytes(text: &mut String, from: usize, to: usize, new: &str) -> Result<(), AllocError>
-    requires ordered { from ≤ to }
-    requires front { IsCharBoundary (string_bytes text.old) from }
-    requires rest { IsCharBoundary (string_bytes text.old) to }
-    ensures bytes { OnOk result (string_bytes text.new
-        ≡ (take from (string_bytes text.old) ++ new.now) ++ drop to (string_bytes text.old)) }
-    ensures len { OnOk result (string_len text.new + (to - from) ≡ string_len text.old + length new.now) }
-    ensures refused { OnErr result (string_bytes text.new ≡ string_bytes text.old) }
-{
-    if text.len() - to <= NEAR {
-        return text.replace_range(from..to, new);
-    }
-    *text = copy_with(text, from, to, new)?;
-    Ok(())
-}
-
 /// Takes what stands from a byte on off a text, and hands it out. Of the two parts the shorter one is copied, so that
 /// the longer one keeps no more room than it has use for.
 fn split_text(text: &mut String, byte: usize) -> Result<String, AllocError>
@@ -92,7 +54,7 @@ fn split_text(text: &mut String, byte: usize) -> Result<String, AllocError>
         return text.split_off(byte);
     }
     let front = String::from_str(*text.allocator(), &text.as_str()[..byte])?;
-    replace_bytes(text, 0, byte, "")?;
+    text.replace_range(0..byte, "")?;
     Ok(std::mem::replace(text, front))
 }
 
@@ -271,7 +233,7 @@ impl Characters {
         ensures refused { OnErr result (self.new ≡ self.old) }
     {
         let byte = byte_of(self.text.as_str(), self.count, column);
-        replace_bytes(&mut self.text, byte, byte, text)?;
+        self.text.insert_str(byte, text)?;
         self.count += count_characters(text);
         Ok(())
     }
@@ -286,7 +248,7 @@ impl Characters {
         let text = self.text.as_str();
         let start = byte_of(text, self.count, from);
         let long = byte_of(&text[start..], self.count - from, to - from);
-        replace_bytes(&mut self.text, start, start + long, "")?;
+        self.text.replace_range(start..start + long, "")?;
         self.count -= to - from;
         Ok(())
     }

@@ -319,7 +319,6 @@ impl Line {
     /// Gives back room that isn't needed, where memory allows it: of its characters more than twice what they take and
     /// 64 bytes, of its toggles and of its marks more than for twice their number and 8, and the room for both where
     /// there are none. No clause can bound what stays, since memory may be refused for what is smaller.
-    #[inline]
     pub fn trim(&mut self)
         ensures { self.new ≡ self.old }
     {
