@@ -151,6 +151,12 @@ pub trait TextStore: Drop {
         ensures { IfOk result (λ text.
             chars (string_bytes text) ≡ slice_range (characters (content self.now).cells) start end) };
 
+    /// Looks up a line that the caller needs next: a store that remembers it then finds it without a search. Does
+    /// nothing if there is no such line.
+    fn seek_line(&mut self, _line: usize)
+        ensures { content self.new ≡ content self.old }
+    {}
+
     /// Takes the memory for an edit. The text and its marks stay as they are, also where memory is refused.
     fn prepare(&mut self, edit: &Edit) -> Result<Self::Prepared, AllocError>
         requires { Fits edit.now.steps (content self.old) }
