@@ -9,7 +9,9 @@ use Rattle.text_index.proofs.Common.{saturated_base, saturated_modifier, WholeIn
 use Rattle.text_index.proofs.Common.{on_line, line_value, unless_end, lines_back, word_front, word_behind, word_end}
 use Rattle.text_index.proofs.Common.{modified, modified_by, or_fault, first_tagged, last_tagged, base_value}
 use Rattle.text_index.proofs.Common.{then_modified, index_value, Meanings, AreWithin, value_of, shown_meanings}
-use Rattle.text_index.proofs.Common.{IndexFault, BadIndex, Base, Some, None}
+use Rattle.text_index.proofs.Common.{IndexFault, BadIndex, Base, Some, None, Cell, is_word, length-map, shown_flags}
+use Rattle.text_index.proofs.Common.{word_value, index_of}
+use Rattle.index_grammar.specs.Names.{known_marks, known_tags}
 use Rattle.text_index.proofs.FlagLaws.{length-shown_flags}
 use Rattle.std.proofs.lemmas.List.Quantifiers.{position-Some}
 use Rattle.text_model.specs.declared.places.Place.{Place}
@@ -321,3 +323,21 @@ shown-within marks tags widget part view =
       places = λ number place is. omega (arith, mark-within part number place is);
       flags = λ slot. omega (arith, length-shown_flags part slot view);
     }
+
+-- the value of an index that was read of a word is the place that the word stands for
+pub value-found : (marks : List Mark) (tags : List Tag) (widget : ℕ) (part : Part) (word : List ℕ) (from : Base)
+    (steps : List Modifier) (result : Result ℕ IndexFault) → IsView part → length part.content.cells < most
+    → saturated_index (index_of (known_marks marks widget) (known_tags tags widget) word) ≡ Some (from, steps)
+    → result ≡ index_value is_word (shown_mark part) (λ slot. shown_flags slot part) (shown part) from steps
+    → result ≡ word_value is_word (shown_meanings marks tags widget part) (shown part) word
+value-found marks tags widget part word from steps result view room read found =
+    let short : length (shown part) < most = omega (
+      arith,
+      length-shown part view,
+      view.behind.within,
+      length-map part.content.cells (λ (cell : Cell). cell.character),
+      room,
+    ) in
+    found ∙ index_value-saturated is_word (shown_meanings marks tags widget part) (shown part)
+    (index_of (known_marks marks widget) (known_tags tags widget) word) from steps short
+    (shown-within marks tags widget part view) read

@@ -13,7 +13,7 @@ mod words;
 pub use index_grammar::{
     Base, Direction, Index, IndexFault, Modifier, Modifiers, Names, Unit, parse,
 };
-pub use locating::locate;
+pub use locating::{locate, seek};
 pub use moves::{back, forward, lines_by, word_end, word_start};
 pub use positions::{push_index, push_index_on};
 pub use ranges::{TagRange, change_after, next_range, previous_range, range_behind};

@@ -3,14 +3,14 @@
 ghost use Rattle.std.specs.Prelude.{◌≡◌, ◌≢◌, ◌≤◌, ◌<◌, ◌+◌, length, chars, IfOk};
 ghost use Rattle.text_model.specs.declared.limits.TheConstants.Limits.{MOST_WIDGETS};
 ghost use Rattle.text_index.specs.Parts.{part_of};
-ghost use Rattle.text_index.specs.Views.{shown};
+ghost use Rattle.text_index.specs.Views.{shown, IsView};
 ghost use Rattle.text_index.specs.Words.{is_word};
 ghost use Rattle.text_index.specs.Meanings.{shown_meanings, word_value};
 ghost use Rattle.index_grammar.specs.declared.faults.IndexFault.TheVariants.{Memory};
 
 use crate::values::resolve;
 use crate::views::View;
-use index_grammar::{IndexFault, Names, parse};
+use index_grammar::{Base, IndexFault, Names, parse};
 use std::alloc::Global;
 use text_model::TextStore;
 
@@ -34,4 +34,41 @@ pub fn locate<S: TextStore>(
 {
     let index = parse(alloc, word, names)?;
     resolve(&index, view)
+}
+
+/// Returns what `locate` does in the view from one offset to another. If the view begins with the text, the store looks
+/// up the line that the index names, so that the calls after this one find it without a search.
+pub fn seek<S: TextStore>(
+    alloc: Global,
+    word: &str,
+    names: &Names,
+    store: &mut S,
+    start: usize,
+    end: usize,
+) -> Result<usize, IndexFault>
+    requires view { IsView (record { content = S.content store.old; start = start; end = end }) }
+    requires widget { names.now.widget.0 < MOST_WIDGETS }
+    requires room { length (S.content store.old).cells < usize.MAX }
+    ensures same { S.content store.new ≡ S.content store.old }
+    ensures value { result ≢ Err Memory → result ≡ word_value is_word
+        (shown_meanings names.now.marks.now.marks names.now.tags.now.tags names.now.widget.0
+        (record { content = S.content store.old; start = start; end = end }))
+        (shown (record { content = S.content store.old; start = start; end = end })) (chars word.now) }
+    ensures within { IfOk result (λ place. start + place ≤ end) }
+{
+    let index = parse(alloc, word, names)?;
+    if start == 0 {
+        seek_base(store, index.base);
+    }
+    resolve(&index, &View::new(store, start, end))
+}
+
+/// Has the store look up the line that the base of an index names.
+fn seek_base<S: TextStore>(store: &mut S, base: Base)
+    ensures { S.content store.new ≡ S.content store.old }
+{
+    match base {
+        Base::At(line, _) | Base::LineEnd(line) => store.seek_line(line.saturating_sub(1)),
+        _ => {}
+    }
 }

@@ -1,27 +1,15 @@
-use Rattle.text_index.proofs.Common.{part_of, ◌≡◌, ◌<◌, ◌≤◌, ◌+◌, Some, refl, sym, arith, ◌∙◌, chars, IfOk, length-map}
-use Rattle.text_index.proofs.Common.{Cell, index_of, shown, is_word, shown_meanings, Err, Ok, length}
+use Rattle.text_index.proofs.Common.{part_of, ◌≡◌, ◌≤◌, ◌+◌, Some, refl, sym, arith, ◌∙◌, chars, IfOk}
+use Rattle.text_index.proofs.Common.{shown, is_word, shown_meanings, Err, Ok}
 use Rattle.text_index.proofs.ViewLaws.{length-shown}
-use Rattle.text_index.proofs.BoundLaws.{shown-within, index_value-saturated, value_of-le}
+use Rattle.text_index.proofs.BoundLaws.{shown-within, value-found, value_of-le}
 use Rattle.text_index.proofs.locating.locate.Goals as goal
 
 pub returns-clause-value : goal.returns-clause-value
 returns-clause-value g c =
     let view = c.args.view.now in let names = c.args.names.now in
-    let meanings = shown_meanings names.marks.now.marks names.tags.now.tags names.widget.0 (part_of view) in
-    let text = shown (part_of view) in
-    let word = index_of meanings.marks meanings.tags (chars c.args.word.now) in
-    let short : length text < 18446744073709551615 =
-    omega (
-      arith,
-      length-shown (part_of view) view.whole_lines,
-      view.whole_lines.behind.within,
-      length-map (part_of view).content.cells (λ (cell : Cell). cell.character),
-      c.requires.room,
-    ) in
-    λ _. c.resolve.ensures.value
-    ∙ index_value-saturated is_word meanings text word c.in_ok-index.index.base c.in_ok-index.index.modifiers short
-    (shown-within names.marks.now.marks names.tags.now.tags names.widget.0 (part_of view) view.whole_lines)
-    c.in_ok-index.ensures.ok
+    λ _. value-found names.marks.now.marks names.tags.now.tags names.widget.0 (part_of view) (chars c.args.word.now)
+    c.in_ok-index.index.base c.in_ok-index.index.modifiers c.resolve.result view.whole_lines c.requires.room
+    c.in_ok-index.ensures.ok c.resolve.ensures.value
 
 pub returns-clause-within : goal.returns-clause-within
 returns-clause-within g c =
