@@ -319,6 +319,7 @@ impl Line {
     /// Gives back room that isn't needed, where memory allows it: of its characters more than twice what they take and
     /// 64 bytes, of its toggles and of its marks more than for twice their number and 8, and the room for both where
     /// there are none. No clause can bound what stays, since memory may be refused for what is smaller.
+    #[inline]
     pub fn trim(&mut self)
         ensures { self.new ≡ self.old }
     {
@@ -423,6 +424,7 @@ impl Line {
     }
 
     /// Takes the toggles of a slot before the characters from one column to another away, which takes no memory.
+    #[inline]
     pub fn clear(&mut self, slot: TagSlot, from: usize, to: usize)
         requires slot { slot.0 < slot_count }
         requires ordered { from ≤ to }
