@@ -68,6 +68,12 @@ pub trait LineList: Drop {
         ensures same { lines self.new ≡ lines self.old }
         ensures place { Holds (lines self.old) offset result.0 result.1 };
 
+    /// Looks up a line that the caller needs next: a list that remembers it then finds it without a search. Does
+    /// nothing if there is no such line.
+    fn seek_line(&mut self, _index: usize)
+        ensures { lines self.new ≡ lines self.old }
+    {}
+
     /// The line that holds an offset, lent, behind its number and the column there.
     fn line_at(&self, offset: usize) -> (usize, usize, &Line)
         requires { offset < length (whole (lines self.now)).columns }

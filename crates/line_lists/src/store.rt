@@ -306,6 +306,10 @@ impl<L: LineList> TextStore for LineStore<L> {
         queries::copy_text(&self.list, start, end)
     }
 
+    fn seek_line(&mut self, line: usize) {
+        self.list.seek_line(line);
+    }
+
     fn prepare(&mut self, edit: &Edit) -> Result<Change, AllocError> {
         let steps = edit.steps.as_slice();
         if let Some(change) = lone_change(&mut self.list, steps)? {

@@ -48,6 +48,7 @@ pub use Rattle.line_tree.specs.Trees.{names, tops, total}
 pub use Rattle.line_tree.specs.declared.aims.CharactersBefore.{CharactersBefore}
 pub use Rattle.line_tree.specs.declared.aims.SlotsBefore.{SlotsBefore}
 pub use Rattle.line_tree.specs.declared.find.Found.{Found}
+pub use Rattle.line_tree.specs.declared.last_line.LastLine.{LastLine}
 pub use Rattle.line_tree.specs.declared.nearest.Wanted.{Wanted}
 pub use Rattle.raw_nodes.proofs.MapLaws.{at_some, get_inserted, get_other, get_removed, get_unmoved, kept_insert}
 pub use Rattle.raw_nodes.proofs.MapLaws.{some_of}

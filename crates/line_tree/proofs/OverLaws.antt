@@ -4,18 +4,16 @@ use Rattle.line_tree.proofs.Common.{sym, ap, ◌∙◌, subst, arith, append_ass
 use Rattle.line_tree.proofs.Common.{plus-no_text, FitsSum, LineContent, line_count, Named, contents, total, NodePtr}
 use Rattle.line_tree.proofs.Common.{plus, AreLines, IsCounted, NumbersBelow, count_of, has_mark, spliced, AreBare}
 use Rattle.line_tree.proofs.Common.{IsTable, holder, lines_without, noted, changed, IsThere, whole, IfSome, ◌<◌}
-use Rattle.line_tree.proofs.Common.{take_at, length-take-le, same_Some, slice_get_within}
+use Rattle.line_tree.proofs.Common.{take_at, length-take-le, same_Some, slice_get_within, LastLine, count-characters}
+use Rattle.line_tree.proofs.Common.{◌^◌}
 use Rattle.std.proofs.Common.{option_map}
 use Rattle.line_tree.proofs.ChangingLaws.{changed-at}
 use Rattle.line_tree.proofs.HolderLaws.{none-out}
 use Rattle.line_tree.proofs.ListedLaws.{Comes, comes-contents, comes-others, fits-counted, listed}
-use Rattle.line_tree.specs.declared.last_line.LastLine.{LastLine}
 use Rattle.line_lists.specs.Lists.{Holds}
 use Rattle.line_tree.proofs.PlaceLaws.{named_line}
 use Rattle.line_tree.proofs.TakeLaws.{changed-is}
-use Rattle.line_lists.proofs.LineStarts.{near-most}
-use Rattle.line_lists.proofs.CountRows.{count-characters}
-use Rattle.std.proofs.Common.{◌^◌}
+use Rattle.line_lists.proofs.LineStarts.{placed-most}
 use Rattle.line_tree.proofs.WalkLaws.{Passes, forgets, forgets-within, notes}
 
 pub fits-one : (ls : List Named) (line : LineContent) → IsCounted (plus (count_of (contents ls)) (count_of (line ∷ [])))
@@ -113,26 +111,25 @@ last-holds ls last offset there above below =
       within = slice_get_within (contents ls) last.index line is;
     }
 
--- a line that is found by an offset
-pub found-there : (ls : List Named) (offset k column len : ℕ) (name : NodePtr) (line : LineContent) →
-    Holds (contents ls) offset k column → slice_get ls k ≡ Some (name, line) → len ≡ length line.columns →
-    IsThere ls (record { index = k; name = name; start = offset - column; end = (offset - column) + len })
-found-there ls offset k column len name line holds at is = record {
+-- a line that is found with where it begins
+pub placed-there : (ls : List Named) (k start len : ℕ) (name : NodePtr) (line : LineContent) →
+    start ≡ length (whole (take k (contents ls))).columns → slice_get ls k ≡ Some (name, line) →
+    len ≡ length line.columns →
+    IsThere ls (record { index = k; name = name; start = start; end = start + len })
+placed-there ls k start len name line starts at is = record {
   name = ap (option_map (λ (l : Named). l.0)) at;
-  start = omega (arith, holds.behind);
-  end = λ found there. ap (λ n. (offset - column) + n) is
-      ∙ ap (λ (l : LineContent). (offset - column) + length l.columns)
+  start = starts;
+  end = λ found there. ap (λ n. start + n) is ∙ ap (λ (l : LineContent). start + length l.columns)
       (same_Some line found (sym (listed ls k name line at) ∙ there));
 }
 
-pub found-fits : (ls : List Named) (offset k column : ℕ) (name : NodePtr) (line : LineContent) →
-    AreLines (contents ls) → Holds (contents ls) offset k column → slice_get ls k ≡ Some (name, line) →
-    (offset - column) + length line.columns < 2 ^ 64
-found-fits ls offset k column name line are holds at =
+pub placed-fits : (ls : List Named) (k start : ℕ) (name : NodePtr) (line : LineContent) → AreLines (contents ls) →
+    start ≡ length (whole (take k (contents ls))).columns → slice_get ls k ≡ Some (name, line) →
+    start + length line.columns < 2 ^ 64
+placed-fits ls k start name line are starts at =
     omega (
       arith,
-      near-most (contents ls) offset k column (length line.columns) line holds.behind (listed ls k name line at)
-          (omega arith),
+      placed-most (contents ls) k start (length line.columns) line starts (listed ls k name line at) (omega arith),
       are.counted.characters,
       count-characters (contents ls),
     )

@@ -133,6 +133,23 @@ impl LineList for TreeLines {
         (found.line, found.column)
     }
 
+    fn seek_line(&mut self, index: usize) {
+        if let Some(last) = self.last {
+            if last.index == index {
+                return;
+            }
+        }
+        if index < self.tree.len() {
+            let Placed { name, start } = self.tree.place(index, &mut Steps::new());
+            self.last = Some(LastLine {
+                index,
+                name,
+                start,
+                end: start + self.tree.line(name).len(),
+            });
+        }
+    }
+
     fn line_at(&self, offset: usize) -> (usize, usize, &Line) {
         if let Some(last) = self.last {
             if last.start <= offset && offset < last.end {

@@ -1,11 +1,9 @@
-use Rattle.line_tree.proofs.Common.{subst, arith, contents}
-use Rattle.std.specs.Prelude.{IfSome}
-use Rattle.line_tree.specs.LastLines.{IsThere}
+use Rattle.line_tree.proofs.Common.{subst, arith, contents, ◌-◌, IfSome, IsThere}
 use Rattle.line_tree.proofs.ListedLaws.{characters-in, place-holds}
-use Rattle.line_tree.proofs.OverLaws.{found-fits, found-there, last-holds}
+use Rattle.line_tree.proofs.OverLaws.{last-holds, placed-fits, placed-there}
 use Rattle.line_tree.proofs.tree_lines.TreeLinesLineList.seek.Goals.{In-Some, After-locate_line-found}
-use Rattle.line_tree.proofs.tree_lines.TreeLinesLineList.seek.Goals as goal
 use Rattle.line_lists.specs.Lists.{Holds}
+use Rattle.line_tree.proofs.tree_lines.TreeLinesLineList.seek.Goals as goal
 
 there : (c : In-Some) → IsThere c.args.self.now.tree.lines c.in-Some.last
 there c = subst (λ last. IfSome last (IsThere c.args.self.now.tree.lines)) c.in-Some.is c.args.self.now.remembered
@@ -37,8 +35,9 @@ overflow_add-self c =
     let at = holds (goal.at.overflow_add-self c).After-locate_line-found in
     omega (
       arith,
-      found-fits c.args.self.now.tree.lines c.args.offset c.locate_line-found.result.line
-          c.locate_line-found.result.column c.locate_line-found.result.name c.line.result.now c.args.self.now.are_lines at
+      placed-fits c.args.self.now.tree.lines c.locate_line-found.result.line
+          (c.args.offset - c.locate_line-found.result.column) c.locate_line-found.result.name c.line.result.now
+          c.args.self.now.are_lines (omega (arith, at.behind))
           (c.line.ensures c.locate_line-found.result.line c.locate_line-found.ensures.name),
       c.len.ensures,
     )
@@ -49,8 +48,9 @@ invariant_of-self c =
     record {
       are_lines = c.args.self.now.are_lines;
       table = c.args.self.now.table;
-      remembered = found-there c.args.self.now.tree.lines c.args.offset c.locate_line-found.result.line
-          c.locate_line-found.result.column c.len.result c.locate_line-found.result.name c.line.result.now at
+      remembered = placed-there c.args.self.now.tree.lines c.locate_line-found.result.line
+          (c.args.offset - c.locate_line-found.result.column) c.len.result c.locate_line-found.result.name
+          c.line.result.now (omega (arith, at.behind))
           (c.line.ensures c.locate_line-found.result.line c.locate_line-found.ensures.name) c.len.ensures;
     }
 
