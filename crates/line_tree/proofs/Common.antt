@@ -11,7 +11,7 @@ pub use Rattle.line_lists.proofs.FindLaws.{drop_after}
 pub use Rattle.line_lists.proofs.FreedLaws.{eq_self, same-line}
 pub use Rattle.line_lists.proofs.SearchRows.{FailFrom, NextAt, PreviousAt, line_at, next-found, next-none}
 pub use Rattle.line_lists.proofs.SearchRows.{previous-found, previous-none}
-pub use Rattle.line_lists.proofs.VecLaws.{lines-are-without, new-lines}
+pub use Rattle.line_lists.proofs.VecLaws.{lines-are-without, new-lines, whole-without}
 pub use Rattle.line_lists.specs.Edits.{without_mark}
 pub use Rattle.line_lists.specs.Lists.{AreLines, AreRows, IsCounted, NumbersBelow, count_of, has_mark, has_marks}
 pub use Rattle.line_lists.specs.Lists.{more_lines, next_line, previous_line, row_of, spliced}

@@ -3,7 +3,9 @@ use Rattle.line_tree.proofs.Common.{◌≡◌, ℕ, suc, ◌<◌, Bool, true, fa
 use Rattle.line_tree.proofs.Common.{drop, set, refl, sym, ap, ap₂, ◌∙◌, subst, is_some, slice_get, Option, None, Some}
 use Rattle.line_tree.proofs.Common.{nat_cmp_total, eq_by_cmp, nat_cmp, map-append, LineContent, Named, contents}
 use Rattle.line_tree.proofs.Common.{NodePtr, tied_same, without_mark, AreLines, has_mark, drop_after, same-line}
-use Rattle.line_tree.proofs.Common.{lines-are-without, IsTable, holder, noted, changed, append_assoc}
+use Rattle.line_tree.proofs.Common.{lines-are-without, IsTable, holder, noted, changed, append_assoc, ◌+◌, IfSome}
+use Rattle.line_tree.proofs.Common.{IsThere, none-some, option_map, same_Some, slice_get-map, take-map, whole}
+use Rattle.line_tree.proofs.Common.{whole-without, LastLine}
 use mathlib.Core.Bool.{false≢true}
 use Rattle.line_tree.proofs.HolderLaws.{alone, first, holder-append, not-first, whole-list}
 use Rattle.line_tree.proofs.ListedLaws.{HeldAt}
@@ -63,6 +65,40 @@ pub taken-are : (n : ℕ) (ls now : List Named) (k : ℕ) → AreLines (contents
     now ≡ changed k (without_mark n) ls → AreLines (contents now)
 taken-are n ls now k are only is =
     subst AreLines (sym (taken-lines n ls now k only is)) (lines-are-without n (contents ls) are)
+
+-- ---- a line that is remembered
+taken-names : (n : ℕ) (ls now : List Named) (k : ℕ) → IsOnlyIn n ls k → now ≡ changed k (without_mark n) ls →
+    map (λ (l : Named). l.0) now ≡ map (λ (l : Named). l.0) ls
+taken-names n ls now k only is =
+    let front = take k ls in let back = drop (suc k) ls in let l = only.line in let name = λ (x : Named). x.0 in
+    ap (map name) (is ∙ changed-is ls k l (without_mark n) only.at)
+    ∙ map-append name front ((l.0, without_mark n l.1) ∷ back)
+    ∙ sym (map-append name front (l ∷ back))
+    ∙ ap (map name) (put-in ls k l only.at)
+
+taken-line : (n start end : ℕ) (o : Option LineContent) (now : LineContent) →
+    ((line : LineContent) → o ≡ Some line → end ≡ start + length line.columns) →
+    option_map (without_mark n) o ≡ Some now → end ≡ start + length now.columns
+taken-line n start end None now ends is = absurd (none-some now is)
+taken-line n start end (Some line) now ends is =
+    ends line refl ∙ ap (λ (l : LineContent). start + length l.columns) (same_Some (without_mark n line) now is)
+
+-- is where it was
+pub taken-there : (n : ℕ) (ls now : List Named) (k : ℕ) (last : Option LastLine) → IsOnlyIn n ls k →
+    now ≡ changed k (without_mark n) ls → IfSome last (IsThere ls) → IfSome last (IsThere now)
+taken-there n ls now k None only is there = tt
+taken-there n ls now k (Some last) only is there =
+    let name = λ (x : Named). x.0 in let w = without_mark n in let i = last.index in
+    let lines = taken-lines n ls now k only is in
+    record {
+      name = sym (slice_get-map name now i) ∙ ap (λ ps. slice_get ps i) (taken-names n ls now k only is)
+          ∙ slice_get-map name ls i ∙ there.name;
+      start = there.start ∙ sym (ap (λ cs. length (whole (take i cs)).columns) lines
+          ∙ ap (λ cs. length (whole cs).columns) (take-map w i (contents ls))
+          ∙ ap (λ (line : LineContent). length line.columns) (whole-without n (take i (contents ls))));
+      end = λ line at. taken-line n last.start last.end (slice_get (contents ls) i) line there.end
+          (sym (slice_get-map w (contents ls) i) ∙ ap (λ cs. slice_get cs i) (sym lines) ∙ at);
+    }
 
 -- ---- the table
 holder-here : (n : ℕ) (ls : List Named) (k : ℕ) (l : Named) → slice_get ls k ≡ Some l →

@@ -27,7 +27,7 @@ pub struct TreeLines {
     tree: LineTree<Steps>,
     /// By the number of a mark.
     names: Vec<Option<NodePtr>>,
-    /// The line that was sought or replaced last, unless a line came or went since, or a mark was taken away.
+    /// The line that was sought or replaced last, unless a line came or went since.
     last: Option<LastLine>,
     ghost are_lines: { AreLines (contents tree.lines) } by { AreLines-prop (contents tree.lines) },
     ghost table: { IsTable names.items tree.lines } by { IsTable-prop names.items tree.lines },
@@ -231,7 +231,6 @@ impl LineList for TreeLines {
     fn take_mark(&mut self, number: MarkNo) {
         if let Some(name) = name_of(&self.names, number) {
             self.tree.take_mark_named(name, number, &mut Steps::new());
-            self.last = None;
             self.names[number.0 as usize] = None;
         }
     }

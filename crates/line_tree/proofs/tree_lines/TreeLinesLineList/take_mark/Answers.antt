@@ -1,6 +1,7 @@
 use Rattle.line_tree.proofs.Common.{◌≡◌, ap, sym, ◌∙◌, arith, holder, noted}
 use Rattle.line_tree.proofs.ListedLaws.{held, held-name}
 use Rattle.line_tree.proofs.TakeLaws.{noted-there, only-in, same-contents, taken-are, taken-lines, taken-table}
+use Rattle.line_tree.proofs.TakeLaws.{taken-there}
 use Rattle.line_tree.proofs.tree_lines.TreeLinesLineList.take_mark.Goals as goal
 
 pub take_mark_named-requires : goal.take_mark_named-requires
@@ -33,7 +34,7 @@ invariant_of-self c = let n = c.args.number.0 in let list = c.args.self.now in l
     record {
       are_lines = taken-are n ls now at.0 list.are_lines only made;
       table = taken-table n list.names.items ls now at.0 only list.table made;
-      remembered = tt;
+      remembered = taken-there n ls now at.0 list.last only made list.remembered;
     }
 
 pub returns-in-Some-clause-lines : goal.returns-in-Some-clause-lines
