@@ -1,11 +1,10 @@
 -- Where a text is inserted for an index.
-use Rattle.documents.proofs.Common.{◌≡◌, ℕ, ◌+◌, ◌-◌, ◌<◌, ◌||◌, ◌==◌, min, Bool, true, false, length, get_or, sym, ap}
-use Rattle.documents.proofs.Common.{ap₂, ◌∙◌, arith, Option, Some, None, Result, Ok, Err, if◌then◌else◌, IsErr}
-use Rattle.documents.proofs.Common.{IsErrAnd, Fault, Memory, Gives, Content, Document, Widget, Parts, widget_at}
+use Rattle.documents.proofs.Common.{◌≡◌, ℕ, ◌+◌, ◌-◌, ◌||◌, ◌==◌, min, Bool, true, false, get_or, sym, ap}
+use Rattle.documents.proofs.Common.{ap₂, ◌∙◌, Option, Some, None, Result, Ok, Err, if◌then◌else◌}
+use Rattle.documents.proofs.Common.{Fault, Memory, Gives, Content, Document, Widget, Parts, widget_at}
 use Rattle.documents.proofs.Common.{is_idle, insertion_offset, with_value}
-use Rattle.documents.proofs.PartsLaws.{cells-kept}
 use Rattle.documents.proofs.ReplacementLaws.{cut-at}
-use Rattle.documents.proofs.ViewLaws.{IsSeen, active-found, ends-found, idle-is}
+use Rattle.documents.proofs.ViewLaws.{IsSeen, active-found, idle-is}
 
 -- what comes of a place, which is found unless memory is wanted
 pub gives-with : {A B : Type 0} (found defined : Result A Fault) (next : A → Result B Fault) → Gives found defined →
@@ -16,14 +15,6 @@ gives-with (Ok value) defined next gives = λ other.
 gives-with (Err fault) defined next gives = λ other.
     ap (λ placed. with_value placed next)
     (gives (λ memory. other (ap (λ placed. with_value placed next) memory)))
-
--- the fault of an index is that of the insertion
-pub faulted : {A B : Type 0} (result : Result B Fault) (found : Result A Fault) (fault : Fault)
-    (next : A → Result B Fault) → IsErr result × IsErrAnd result (λ other. other ≡ fault) → found ≡ Err fault
-    → with_value found next ≡ result
-faulted (Ok value) found fault next is refused = absurd is.1
-faulted (Err other) found fault next is refused =
-    ap (λ placed. with_value placed next) refused ∙ sym (ap Err is.1)
 
 -- where a text is inserted for a place
 abbrev pub at_place : Document → Widget → ℕ → Result (Option ℕ) Fault
@@ -49,12 +40,3 @@ module _ {parts : Parts} {document : Document} {place slot : ℕ} {content : Con
   some-inserted given active =
       ap (λ b. Ok (if b then None else Some (insertion_offset document (widget_at document place) given))) active
       ∙ ap (λ at. Ok (Some at)) (sym (cut-at given seen (active-found seen active)))
-
-  pub inserted-within : (given : ℕ) → is_idle document (widget_at document place) ≡ false
-      → min (first + given) (behind - 1) < length document.cells
-  inserted-within given active =
-      let held = ap (λ (c : Content). length c.cells) seen.held in
-      let long = cells-kept parts document seen.stands.is in
-      let shows = active-found seen active in
-      let ends = ends-found seen in
-      omega (arith, shows, ends, held, long)

@@ -10,10 +10,10 @@ ghost use Rattle.documents.specs.Promise.{Gives};
 ghost use Rattle.documents.specs.Indices.{place_at};
 
 use crate::documents::Document;
-use crate::views::view_of;
+use crate::views::{end_of, start_of, view_of};
 use command_effects::Fault;
 use std::alloc::AllocError;
-use text_index::{IndexFault, Names, locate, push_index};
+use text_index::{IndexFault, Names, locate, push_index, seek};
 use text_model::{TagSlot, Text, TextStore};
 
 /// A place, or the fault of the index at a position of a command.
@@ -42,6 +42,26 @@ impl<S: TextStore> Document<S> {
         };
         let view = view_of(&self.text.store, &self.text.anchors, slot);
         at_position(position, locate(self.alloc, word, &names, &view))
+    }
+
+    /// Returns what `place_at` does, and has the store look up the line of the index, so that the calls after this one
+    /// find it without a search.
+    pub fn seek(&mut self, seat: usize, position: usize, word: &str) -> Result<usize, Fault>
+        requires shown { seat < length self.old.widgets }
+        ensures same { self.new ≡ self.old }
+        ensures value { Gives result (place_at self.old (widget_at self.old seat) position (chars word.now)) }
+        ensures within { IfOk result (λ place. place ≤ length (shown self.old (widget_at self.old seat))) }
+    {
+        let slot = self.seats.number(seat);
+        let names = Names {
+            tags: &self.tags,
+            marks: &self.marks,
+            widget: TagSlot(slot),
+        };
+        let start = start_of(&self.text.anchors, slot);
+        let end = end_of(&self.text.anchors, slot, self.text.store.len());
+        let found = seek(self.alloc, word, &names, &mut self.text.store, start, end);
+        at_position(position, found)
     }
 
     /// How many characters the view has.

@@ -9,12 +9,10 @@ ghost use Rattle.documents.specs.Views.{shown};
 
 use crate::callers::Caller;
 use crate::documents::Document;
-use crate::indices::at_position;
 use crate::views::view_of;
 use command_effects::{Fault, Pair, plan_pairs};
 use reports::{EditTold, carry_out_tagged};
 use std::alloc::AllocError;
-use text_index::{Names, locate};
 use text_model::{TagSlot, Text, TextStore};
 
 impl<S: TextStore> Document<S> {
@@ -41,26 +39,23 @@ impl<S: TextStore> Document<S> {
     }
 
     /// Returns the offset at which a text is inserted for the index at a position of a command: before the last newline
-    /// where the index is the end of the view. Returns `None` where the widget leaves the text as it is.
+    /// where the index is the end of the view. Returns `None` where the widget leaves the text as it is. The store
+    /// looks up the line of the index, as for `seek`.
     pub fn insertion_at(
-        &self,
+        &mut self,
         seat: usize,
         position: usize,
         word: &str,
     ) -> Result<Option<usize>, Fault>
-        requires shown { seat < length self.now.widgets }
+        requires shown { seat < length self.old.widgets }
+        ensures same { self.new ≡ self.old }
         ensures value { Gives result
-            (insertion_at self.now (widget_at self.now seat) position (chars word.now)) }
-        ensures within { IfOk result (λ found. IfSome found (λ at. at < length self.now.cells)) }
+            (insertion_at self.old (widget_at self.old seat) position (chars word.now)) }
+        ensures within { IfOk result (λ found. IfSome found (λ at. at < length self.old.cells)) }
     {
+        let place = self.seek(seat, position, word)?;
         let slot = self.seats.number(seat);
-        let names = Names {
-            tags: &self.tags,
-            marks: &self.marks,
-            widget: TagSlot(slot),
-        };
         let view = view_of(&self.text.store, &self.text.anchors, slot);
-        let place = at_position(position, locate(self.alloc, word, &names, &view))?;
         if self.disabled[slot as usize] || view.start == view.end {
             return Ok(None);
         }
