@@ -1,6 +1,8 @@
 //! Edits of one step that change one line alone: a copy of the line takes the step, and comes in the line's place.
 
 ghost use Rattle.std.specs.Prelude.{◌≡◌, ◌<◌, ◌≤◌, IfOk, IfSome, OnOk, chars, length, take};
+ghost use Rattle.std.specs.FinSet as set;
+ghost use Rattle.text_model.specs.Content.{Slots};
 ghost use Rattle.text_model.specs.SlotSets.{differing};
 ghost use Rattle.text_model.specs.Steps.{StepFitsIn};
 ghost use Rattle.text_model.specs.TagBits.{slot_count};
@@ -13,7 +15,7 @@ ghost use Rattle.line_lists.specs.Toggling.{tags_left_of};
 use crate::insertions::cut_line;
 use crate::lists::LineList;
 use crate::queries;
-use crate::steps::switched_slots;
+use crate::steps::switched_slot;
 use segments::Line;
 use std::alloc::AllocError;
 use text_model::{MarkNo, Place, Step, TagSet, TagSlot};
@@ -36,6 +38,15 @@ fn slots_before(tags: &TagSet, line: &Line, column: usize) -> TagSet
         line.turn_tags_before(column - 1, &mut slots);
     }
     slots
+}
+
+/// Returns whether a slot is on before a column of a line. `is_on` says whether it is on before the line.
+fn is_on_before(is_on: bool, line: &Line, column: usize, slot: TagSlot) -> bool
+    requires { column ≤ length line.now.columns }
+    ensures { (tags : Slots) → is_on ≡ set.contains tags slot.0 →
+        result ≡ set.contains (differing tags (tags_left_of (take column line.now.columns))) slot.0 }
+{
+    is_on != line.is_odd_left_of(column, slot)
 }
 
 /// Toggles each slot of a set before the characters at two columns of a line.
@@ -129,9 +140,9 @@ fn set_tag<L: LineList>(
     if here.len() <= end {
         return Ok(None);
     }
-    let tags = list.odd_slots(index);
-    let first = switched_slots(&slots_before(&tags, here, column), slot, is_on);
-    let last = switched_slots(&slots_before(&tags, here, end), slot, is_on);
+    let was_on = list.is_odd(slot, index);
+    let first = switched_slot(is_on_before(was_on, here, column, slot), slot, is_on);
+    let last = switched_slot(is_on_before(was_on, here, end, slot), slot, is_on);
     let mut line = here.try_clone()?;
     line.clear(slot, column, end);
     line.toggle(column, &first)?;

@@ -3,6 +3,7 @@
 ghost use Rattle.std.specs.Prelude.{◌≡◌, ℕ, ◌+◌, ◌<◌, ◌≤◌, List, [], ◌∷◌, length, map, take, slice_get, Some, IfOk};
 ghost use Rattle.std.specs.Prelude.{◌++◌, IfSome, None, OnOk, chars, slice_range, string_bytes, true};
 ghost use Rattle.std.specs.List.{All};
+ghost use Rattle.std.specs.FinSet as set;
 ghost use Rattle.text_model.specs.TagBits.{slot_count};
 ghost use Rattle.toggle_sums.specs.Counts.{IsBare, plus};
 ghost use Rattle.segments.specs.Columns.{LineContent, characters, plain_line};
@@ -89,6 +90,15 @@ pub trait LineList: Drop {
     fn odd_slots(&self, line: usize) -> TagSet
         requires { line ≤ length (lines self.now) }
         ensures { result ≡ (count_of (take line (lines self.now))).parity };
+
+    /// Returns whether a slot is toggled an odd number of times before a line.
+    fn is_odd(&self, slot: TagSlot, line: usize) -> bool
+        requires slot { slot.0 < slot_count }
+        requires within { line ≤ length (lines self.now) }
+        ensures { result ≡ set.contains (count_of (take line (lines self.now))).parity slot.0 }
+    {
+        self.odd_slots(line).has(slot)
+    }
 
     /// The sum of so many lines from the first.
     fn prefix(&self, count: usize) -> Sums<WORDS>

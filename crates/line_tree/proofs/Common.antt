@@ -16,8 +16,8 @@ pub use Rattle.line_lists.specs.Edits.{without_mark}
 pub use Rattle.line_lists.specs.Lists.{AreLines, AreRows, IsCounted, NumbersBelow, count_of, has_mark, has_marks}
 pub use Rattle.line_lists.specs.Lists.{more_lines, next_line, previous_line, row_of, spliced}
 pub use Rattle.line_lists.specs.Texts.{whole}
-pub use Rattle.line_tree.specs.Aims.{AddsUp, characters-add, characters_behind, lines-add, nothing-adds, slots_behind}
-pub use Rattle.line_tree.specs.Aims.{sum-adds, sum_behind}
+pub use Rattle.line_tree.specs.Aims.{AddsUp, characters-add, characters_behind, lines-add, nothing-adds, slot_behind}
+pub use Rattle.line_tree.specs.Aims.{slots_behind, sum-adds, sum_behind}
 pub use Rattle.line_tree.specs.Changes.{Among, CanEven, CanFill, CanPut, Distinct, Evens, Fills, FitsSum, Halves, Mends}
 pub use Rattle.line_tree.specs.Changes.{Merges, Puts, Shares, Stay, link_one, refilled, relinked, resummed, sum_all}
 pub use Rattle.line_tree.specs.Changes.{sum_or_none, sums}
@@ -50,6 +50,7 @@ pub use Rattle.line_tree.specs.declared.aims.SlotsBefore.{SlotsBefore}
 pub use Rattle.line_tree.specs.declared.find.Found.{Found}
 pub use Rattle.line_tree.specs.declared.last_line.LastLine.{LastLine}
 pub use Rattle.line_tree.specs.declared.nearest.Wanted.{Wanted}
+pub use Rattle.line_tree.specs.declared.slot_before.SlotBefore.{SlotBefore}
 pub use Rattle.raw_nodes.proofs.MapLaws.{at_some, get_inserted, get_other, get_removed, get_unmoved, kept_insert}
 pub use Rattle.raw_nodes.proofs.MapLaws.{some_of}
 pub use Rattle.raw_nodes.proofs.PlaceLaws.{name_antisym, name_total, same_or_other}
@@ -87,13 +88,13 @@ pub use Rattle.std.specs.FinMap.{empty_of_len, get-empty, len-empty, len-insert,
 pub use Rattle.std.specs.List.{All, AllByRecursion, count_by, filter_map, flat_map, insert, remove, sum_by}
 pub use Rattle.std.specs.Option.{option_map}
 pub use Rattle.std.specs.Ordering.{eq_by_cmp, is_lt, nat_cmp}
-pub use Rattle.std.specs.Prelude.{⊤, ◌&&◌, T}
 pub use Rattle.text_model.specs.Content.{Marks, Slots}
 pub use Rattle.text_model.specs.SlotSets.{differing}
 pub use Rattle.text_model.specs.Splices.{removed}
 pub use Rattle.text_model.specs.declared.places.Place.{Place}
-pub use Rattle.toggle_sums.specs.CountLaws.{differing-associative, differing-empty, differing-self, empty-differing}
-pub use Rattle.toggle_sums.specs.CountLaws.{no_text-plus, plus-associative, plus-commutative, plus-no_text, same_slots}
-pub use Rattle.toggle_sums.specs.CountLaws.{union-associative, union-commutative, union-empty, union-self}
+pub use Rattle.toggle_sums.specs.CountLaws.{differing-associative, differing-empty, differing-self, either}
+pub use Rattle.toggle_sums.specs.CountLaws.{empty-differing, no_text-plus, plus-associative, plus-commutative}
+pub use Rattle.toggle_sums.specs.CountLaws.{plus-no_text, same_slots, union-associative, union-commutative, union-empty}
+pub use Rattle.toggle_sums.specs.CountLaws.{union-self}
 pub use Rattle.toggle_sums.specs.Counts.{CanExchange, Count, CountsFit, HasCounts, IsBare, IsWithin, counting}
 pub use Rattle.toggle_sums.specs.Counts.{exchanged, less, no_text, plus, without}

@@ -1,8 +1,12 @@
 -- What stands before a place, and how it adds up.
-use Rattle.std.specs.Prelude.{◌≡◌, ℕ, ◌+◌, ◌^◌, ◌<◌, ⊤, refl}
-use Rattle.std.proofs.Common.{arith, sym}
+use Rattle.std.specs.Prelude.{◌≡◌, ℕ, ◌+◌, ◌^◌, ◌<◌, ⊤, refl, Bool, true, false}
+use Rattle.std.proofs.Common.{arith, sym, ap, ◌∙◌}
+use Rattle.std.specs.Ordering.{nat_cmp}
+use Rattle.std.specs.FinSet as set
+use Rattle.text_model.specs.Content.{Slots}
 use Rattle.text_model.specs.SlotSets.{differing}
-use Rattle.toggle_sums.specs.CountLaws.{differing-associative, differing-empty, plus-associative, plus-no_text}
+use Rattle.toggle_sums.specs.CountLaws.{contains-differing, differing-associative, differing-empty, either}
+use Rattle.toggle_sums.specs.CountLaws.{either-associative, plus-associative, plus-no_text}
 use Rattle.toggle_sums.specs.Counts.{Count, no_text, plus}
 use Rattle.line_tree.specs.Changes.{FitsSum}
 use Rattle.line_tree.specs.declared.aims.CharactersBefore.{CharactersBefore}
@@ -10,6 +14,7 @@ use Rattle.line_tree.specs.declared.aims.LinesBefore.{LinesBefore}
 use Rattle.line_tree.specs.declared.aims.NothingBefore.{NothingBefore}
 use Rattle.line_tree.specs.declared.aims.SlotsBefore.{SlotsBefore}
 use Rattle.line_tree.specs.declared.aims.SumBefore.{SumBefore}
+use Rattle.line_tree.specs.declared.slot_before.SlotBefore.{SlotBefore}
 
 -- how wide a sum is, and what stands before a place that is a sum further on, where that fits
 pub record AddsUp {A : Type 0} (wide : Count → ℕ) (behind : A → Count → A) (fits : A → Count → Type 0) : Type 0 where
@@ -30,6 +35,9 @@ characters_behind a s = record { characters = a.characters + s.characters }
 
 abbrev pub slots_behind : SlotsBefore → Count → SlotsBefore
 slots_behind a s = record { slots = differing a.slots s.parity }
+
+abbrev pub slot_behind : SlotBefore → Count → SlotBefore
+slot_behind a s = record a { is_odd = either a.is_odd (set.contains s.parity a.slot.0) }
 
 abbrev pub sum_behind : SumBefore → Count → SumBefore
 sum_behind a s = record { sum = plus a.sum s }
@@ -89,6 +97,24 @@ slots-add = record {
   wide_plus = λ s t. refl;
   behind_none = λ a i. record { slots = differing-empty a.slots i };
   behind_plus = λ a s t i. record { slots = sym (differing-associative a.slots s.parity t.parity) i };
+  fits_within = λ a s t u fits. tt;
+}
+
+either_none : (b c : Bool) → c ≡ false → either b c ≡ b
+either_none true c is = ap (either true) is
+either_none false c is = ap (either false) is
+
+slot_more : (b : Bool) (s t : Slots) (q : ℕ) →
+    either b (set.contains (differing s t) q) ≡ either (either b (set.contains s q)) (set.contains t q)
+slot_more b s t q =
+    ap (either b) (contains-differing s t q) ∙ sym (either-associative b (set.contains s q) (set.contains t q))
+
+pub slot-adds : AddsUp (λ s. s.lines) slot_behind AlwaysFits
+slot-adds = record {
+  wide_none = refl;
+  wide_plus = λ s t. refl;
+  behind_none = λ a i. record a { is_odd = either_none a.is_odd _ (set.contains-empty nat_cmp a.slot.0) i };
+  behind_plus = λ a s t i. record a { is_odd = slot_more a.is_odd s.parity t.parity a.slot.0 i };
   fits_within = λ a s t u fits. tt;
 }
 

@@ -5,8 +5,9 @@ ghost use Rattle.toggle_sums.specs.Counts.{Count};
 ghost use Rattle.raw_nodes.specs.Names.{IsName, entry};
 ghost use Rattle.line_tree.specs.Aims.{AddsUp, AlwaysFits, CharactersFit, LinesFit, SumFits, characters-add};
 ghost use Rattle.line_tree.specs.Aims.{characters_behind, lines-add, lines_behind, nothing-adds, nothing_behind};
-ghost use Rattle.line_tree.specs.Aims.{slots-add, slots_behind, sum-adds, sum_behind};
+ghost use Rattle.line_tree.specs.Aims.{slot-adds, slot_behind, slots-add, slots_behind, sum-adds, sum_behind};
 
+use crate::slot_before::SlotBefore;
 use raw_nodes::{NodePtr, NodeStore, Ticks};
 use text_model::{TagSet, WORDS};
 use toggle_sums::{Summary, Sums};
@@ -288,6 +289,56 @@ impl AimBack for SlotsBefore {
         ticks: &mut C,
     ) {
         store.turn_odd_slots(node, &mut self.slots, ticks);
+    }
+}
+
+impl Aim for SlotBefore {
+    type Size = usize;
+
+    ghost sized = { λ s. s.lines };
+
+    ghost wide = { λ s. s.lines };
+
+    ghost behind = { slot_behind };
+
+    ghost fits = { AlwaysFits };
+
+    ghost steps = { 1 };
+
+    ghost adds_up = { slot-adds };
+
+    #[inline(always)]
+    fn read<C: Ticks>(store: &NodeStore<C>, node: NodePtr, ticks: &mut C) -> usize {
+        store.lines(node, ticks)
+    }
+
+    #[inline(always)]
+    fn width(size: &usize) -> usize {
+        *size
+    }
+
+    #[inline(always)]
+    fn pass<C: Ticks>(
+        &mut self,
+        store: &NodeStore<C>,
+        node: NodePtr,
+        _size: &usize,
+        ticks: &mut C,
+    ) {
+        self.is_odd = self.is_odd != store.is_odd(node, self.slot, ticks);
+    }
+}
+
+impl AimBack for SlotBefore {
+    #[inline(always)]
+    fn go_back<C: Ticks>(
+        &mut self,
+        store: &NodeStore<C>,
+        node: NodePtr,
+        _size: &usize,
+        ticks: &mut C,
+    ) {
+        self.is_odd = self.is_odd != store.is_odd(node, self.slot, ticks);
     }
 }
 

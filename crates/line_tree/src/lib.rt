@@ -26,6 +26,7 @@ mod rows;
 mod search;
 mod select;
 mod shrink;
+mod slot_before;
 mod splice;
 mod spread;
 mod starts;

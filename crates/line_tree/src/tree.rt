@@ -13,7 +13,7 @@ use crate::remove::{Branch, lower, remove_in};
 use crate::replacing::replace_up;
 use crate::room::{nodes_above, row_ends};
 use crate::select::select;
-use crate::starts::{Placed, odd_slots, place, start};
+use crate::starts::{Placed, is_odd, odd_slots, place, start};
 use crate::taking::take_up;
 use crate::walk::behind;
 use raw_nodes::{NodePtr, NodeStore, Ticks};
@@ -63,6 +63,7 @@ impl<C: Ticks> Model for LineTree<C> {
 impl<C: Ticks> LineTree<C> {
     ghost use Rattle.std.specs.Prelude.{◌≡◌, ℕ, ◌+◌, ◌-◌, ◌*◌, ◌/◌, ◌^◌, ◌≤◌, ◌<◌, OnOk, IfOk, IfSome};
     ghost use Rattle.std.specs.Prelude.{[], ◌∷◌, Some, length, min, option_map, slice_get, take, true};
+    ghost use Rattle.std.specs.FinSet as set;
     ghost use Rattle.std.specs.List.{insert, remove};
     ghost use Rattle.toggle_sums.specs.Counts.{IsBare, plus};
     ghost use Rattle.text_model.specs.Splices.{removed};
@@ -365,6 +366,15 @@ impl<C: Ticks> LineTree<C> {
         ensures { result ≡ (count_of (take k (contents self.now.lines))).parity }
     {
         odd_slots(&self.store, self.root, self.height, k, ticks)
+    }
+
+    /// Returns whether a slot is toggled an odd number of times in the first `k` lines.
+    pub fn is_odd(&self, slot: TagSlot, k: usize, ticks: &mut C) -> bool
+        requires slot { slot.0 < slot_count }
+        requires within { k ≤ length self.now.lines }
+        ensures { result ≡ set.contains (count_of (take k (contents self.now.lines))).parity slot.0 }
+    {
+        is_odd(&self.store, self.root, self.height, slot, k, ticks)
     }
 
     /// The sum of the first `k` lines.

@@ -168,6 +168,10 @@ impl LineList for TreeLines {
         self.tree.odd_slots(line, &mut Steps::new())
     }
 
+    fn is_odd(&self, slot: TagSlot, line: usize) -> bool {
+        self.tree.is_odd(slot, line, &mut Steps::new())
+    }
+
     fn prefix(&self, count: usize) -> Sums<WORDS> {
         self.tree.prefix(count, &mut Steps::new())
     }

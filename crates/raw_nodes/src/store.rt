@@ -177,6 +177,21 @@ impl<C: Ticks> NodeStore<C> {
         }
     }
 
+    /// Returns whether a slot is toggled an odd number of times in the text below a node.
+    pub fn is_odd(&self, name: NodePtr, slot: TagSlot, ticks: &mut C) -> bool
+        requires name { IsName self.now name }
+        requires slot { slot.0 < slot_count }
+        ensures value { IfSome (entry self.now name) (λ r. result ≡ set.contains r.sum.parity slot.0) }
+        ensures tick { C.count ticks.new ≡ C.count ticks.old + 1 }
+    {
+        ticks.tick();
+        match &self.heap.node(name).held {
+            Held::Line(_, line) => line.is_odd(slot),
+            Held::Inner(_, branch) => branch.room.toggles.parity(slot),
+            Held::Spare(_) => false,
+        }
+    }
+
     /// Adds what is counted of the text below a node to a sum.
     pub fn add_sum_to(&self, name: NodePtr, sum: &mut Sums<WORDS>, ticks: &mut C)
         requires name { IsName self.now name }

@@ -63,7 +63,7 @@ pub use Rattle.text_model.specs.declared.places.Gravity.TheVariants.{Left}
 pub use Rattle.text_model.specs.declared.places.Place.{Place}
 pub use Rattle.text_model.specs.declared.tag_set.TheConstants.{WORDS}
 pub use Rattle.toggle_sums.specs.CountLaws.{contains-differing, differing-associative, differing-commutative}
-pub use Rattle.toggle_sums.specs.CountLaws.{differing-empty, either, empty-differing, empty-union, same_slots}
-pub use Rattle.toggle_sums.specs.CountLaws.{union-associative, union-empty}
+pub use Rattle.toggle_sums.specs.CountLaws.{differing-empty, either, either-associative, empty-differing, empty-union}
+pub use Rattle.toggle_sums.specs.CountLaws.{same_slots, union-associative, union-empty}
 pub use Rattle.toggle_sums.specs.Counts.{Count, CountsFit, counting, plus, with_toggles_of}
 pub use Rattle.toggle_sums.specs.Toggles.{parity, presence}

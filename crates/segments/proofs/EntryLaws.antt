@@ -4,7 +4,8 @@ use Rattle.segments.proofs.Common.{◌==◌, List, [], ◌∷◌, ◌++◌, leng
 use Rattle.segments.proofs.Common.{◌∙◌, arith, if◌then◌else◌, All, IsNonDecreasingBy, cases_eq, nat_tests, drop_more}
 use Rattle.segments.proofs.Common.{All-cons, All-nil, nat_cmp, Slots, word_index, differing, WORDS, contains-differing}
 use Rattle.segments.proofs.Common.{differing-associative, either, union-associative, Toggled, HasOneWord, LieIn, RiseIn}
-use Rattle.segments.proofs.Common.{any_of, odd_of, place_of, toggled_at}
+use Rattle.segments.proofs.Common.{any_of, odd_of, place_of, toggled_at, not, either-associative}
+use Rattle.std.specs.Bool.{beq}
 use Rattle.std.specs.FinSet as set
 
 -- no entry stands below the first place
@@ -59,6 +60,29 @@ pub odd_more : (entries : List Toggled) (i : ℕ) (d : Toggled) (so_far whole : 
 odd_more entries i d so_far whole within is =
     differing-associative so_far (get_or entries i d).slots (odd_of (drop (i + 1) entries))
     ∙ ap (λ es. differing so_far (odd_of es)) (sym (drop_more entries i d within))
+    ∙ is
+
+-- whether flags differ
+pub unequal : (a b : Bool) → not (beq a b) ≡ either a b
+unequal true true = refl
+unequal true false = refl
+unequal false true = refl
+unequal false false = refl
+
+pub either-false : (a : Bool) → either a false ≡ a
+either-false true = refl
+either-false false = refl
+
+-- the parity of one slot so far, and that of the rest
+pub odd_slot-more : (entries : List Toggled) (i : ℕ) (d : Toggled) (slot : ℕ) (so_far whole : Bool) →
+    i < length entries → either so_far (set.contains (odd_of (drop i entries)) slot) ≡ whole →
+    either (either so_far (set.contains (get_or entries i d).slots slot))
+    (set.contains (odd_of (drop (i + 1) entries)) slot) ≡ whole
+odd_slot-more entries i d slot so_far whole within is =
+    let here = (get_or entries i d).slots in let rest = odd_of (drop (i + 1) entries) in
+    either-associative so_far (set.contains here slot) (set.contains rest slot)
+    ∙ ap (either so_far) (sym (contains-differing here rest slot))
+    ∙ ap (λ es. either so_far (set.contains (odd_of es) slot)) (sym (drop_more entries i d within))
     ∙ is
 
 -- the presence so far, and that of the rest

@@ -171,6 +171,24 @@ impl Line {
         }
     }
 
+    /// Returns whether a slot is toggled an odd number of times to the left of a column.
+    pub fn is_odd_left_of(&self, column: usize, slot: TagSlot) -> bool
+        requires { column ≤ length self.now.columns }
+        ensures { result ≡ set.contains (parity (toggles (take column self.now.columns))) slot.0 }
+    {
+        match &self.form {
+            Form::Plain(_) => false,
+            Form::Rich(line) => line.is_odd_left_of(column, slot),
+        }
+    }
+
+    /// Returns whether a slot is toggled an odd number of times in the line.
+    pub fn is_odd(&self, slot: TagSlot) -> bool
+        ensures { result ≡ set.contains (line_count self.now).parity slot.0 }
+    {
+        self.is_odd_left_of(self.len(), slot)
+    }
+
     /// The first column from one on before which a slot is toggled.
     pub fn next_toggle(&self, column: usize, slot: TagSlot) -> Option<usize>
         requires slot { slot.0 < slot_count }

@@ -23,8 +23,8 @@ use crate::marks::{
     next_mark, previous_mark, put_mark, take_mark,
 };
 use crate::toggles::{
-    Toggled, clear, count_before, flip, flip_slot, has_toggle, move_rest_back, move_rest_on,
-    next_toggle, odd_slots, previous_toggle, remove_columns, turn_odd,
+    Toggled, clear, count_before, flip, flip_slot, has_toggle, is_odd, move_rest_back,
+    move_rest_on, next_toggle, odd_slots, previous_toggle, remove_columns, turn_odd,
 };
 use std::alloc::{AllocError, AllocFailed, Global};
 use std::marker::Model;
@@ -196,6 +196,15 @@ impl RichLine {
     {
         let count = count_before(&self.toggles, column);
         odd_slots(&self.toggles[..count])
+    }
+
+    /// Returns whether a slot is toggled an odd number of times to the left of a column.
+    pub fn is_odd_left_of(&self, column: usize, slot: TagSlot) -> bool
+        requires { column ≤ length self.now.columns }
+        ensures { result ≡ set.contains (parity (toggles (take column self.now.columns))) slot.0 }
+    {
+        let count = count_before(&self.toggles, column);
+        is_odd(&self.toggles[..count], slot)
     }
 
     /// The first column from one on before which a slot is toggled.

@@ -52,6 +52,17 @@ pub fn odd_slots(toggles: &[Toggled]) -> TagSet
     slots
 }
 
+/// Returns whether a slot is toggled an odd number of times.
+pub fn is_odd(toggles: &[Toggled], slot: TagSlot) -> bool
+    ensures { result ≡ set.contains (odd_of toggles.now) slot.0 }
+{
+    let mut is_odd = false;
+    for entry in toggles {
+        is_odd = is_odd != entry.slots.has(slot);
+    }
+    is_odd
+}
+
 /// Moves toggles so many columns on.
 pub fn move_on(toggles: &mut [Toggled], count: usize)
     requires { All (CanMoveOn count) toggles.old }

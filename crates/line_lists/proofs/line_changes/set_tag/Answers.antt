@@ -1,9 +1,9 @@
 use Rattle.line_lists.proofs.Common.{subst, slice_get, Some, count_of, ◌≡◌, ◌+◌, ◌-◌, ◌<◌, ◌∙◌, ap, arith, refl, length}
-use Rattle.line_lists.proofs.Common.{LineContent, Slots, with_cleared, with_toggled, differing, set_slot, tags_left_of}
-use Rattle.line_lists.proofs.Common.{take}
+use Rattle.line_lists.proofs.Common.{ℕ, LineContent, with_cleared, with_toggled, differing, tags_left_of, take}
 use Rattle.line_lists.proofs.ClearingLaws.{length-cleared}
 use Rattle.line_lists.proofs.LineChangeLaws.{column-inside, tagged-changed, toggled-one}
 use Rattle.line_lists.proofs.WholeLaws.{length-toggled}
+use Rattle.std.specs.FinSet as set
 use Rattle.line_lists.proofs.line_changes.set_tag.Goals as goal
 
 pub returns-clause-changed : goal.returns-clause-changed
@@ -12,13 +12,15 @@ returns-clause-changed g c =
     let column = c.seek-index.result.1 in
     let end = column + (c.args.to - c.args.from) in
     let here = c.line-here.result.now in
-    let first = c.switched_slots-first.result in
-    let last = c.switched_slots-last.result in
+    let first = c.switched_slot-first.result in
+    let last = c.switched_slot-last.result in
     let place = c.seek-index.ensures.place in
     let there = subst (λ lines. slice_get lines c.seek-index.result.0 ≡ Some c.line-here.result.now)
     c.seek-index.ensures.same c.line-here.ensures in
-    let before = c.odd_slots-tags.ensures
-    ∙ ap (λ lines. (count_of (take c.seek-index.result.0 lines)).parity) c.seek-index.ensures.same in
+    let slot = c.args.slot.0 in
+    let before = (count_of (take c.seek-index.result.0 (g.L.LineList.lines c.args.list.now))).parity in
+    let on = c.is_odd-was_on.ensures
+    ∙ ap (λ lines. set.contains (count_of (take c.seek-index.result.0 lines)).parity slot) c.seek-index.ensures.same in
     let inside = column-inside are place there in
     let within : end < length here.columns = omega (arith, c.if-len-end.false, c.len.ensures) in
     let bare : c.clear.new.self ≡ with_cleared c.args.slot.0 column end here =
@@ -34,9 +36,7 @@ returns-clause-changed g c =
     let new : c.toggle-2.new.self ≡ with_toggled end last c.toggle.new.self =
     toggled-one end last c.toggle.new.self c.toggle-2.new.self (omega (arith, same, long, within))
     c.in_ok-toggle-2.ensures.columns c.toggle-2.ensures.marks in
-    let switch = λ (slots : Slots). differing slots (set_slot c.args.slot.0 c.args.is_on slots) in
-    let tags = λ (before : Slots). differing before (tags_left_of (take column here.columns)) in
-    let tags-end = λ (before : Slots). differing before (tags_left_of (take end here.columns)) in
+    let tags = λ (at : ℕ). differing before (tags_left_of (take at here.columns)) in
     tagged-changed are place there c.requires.ordered c.requires.within refl within bare one new
-    (c.switched_slots-first.ensures ∙ ap switch (c.slots_before.ensures ∙ ap tags before))
-    (c.switched_slots-last.ensures ∙ ap switch (c.slots_before-2.ensures ∙ ap tags-end before))
+    (c.switched_slot-first.ensures (tags column) (c.is_on_before.ensures before on))
+    (c.switched_slot-last.ensures (tags end) (c.is_on_before-2.ensures before on))
