@@ -4,7 +4,7 @@ ghost use Rattle.std.specs.Prelude.{◌≡◌, ◌<◌, ◌≤◌, IfOk, IfSome,
 ghost use Rattle.std.specs.FinSet as set;
 ghost use Rattle.text_model.specs.Content.{Slots};
 ghost use Rattle.text_model.specs.SlotSets.{differing};
-ghost use Rattle.text_model.specs.Steps.{StepFitsIn};
+ghost use Rattle.text_model.specs.Steps.{StepFitsIn, set_slot};
 ghost use Rattle.text_model.specs.TagBits.{slot_count};
 ghost use Rattle.text_model.specs.declared.edits.Step.TheVariants.{Insert, PutMark, Remove, SetTag};
 ghost use Rattle.line_lists.specs.Changes.{IsChangedBy, IsLineReady, lines_changed};
@@ -15,7 +15,6 @@ ghost use Rattle.line_lists.specs.Toggling.{tags_left_of};
 use crate::insertions::cut_line;
 use crate::lists::LineList;
 use crate::queries;
-use crate::steps::switched_slot;
 use segments::Line;
 use std::alloc::AllocError;
 use text_model::{MarkNo, Place, Step, TagSet, TagSlot};
@@ -47,6 +46,25 @@ fn is_on_before(is_on: bool, line: &Line, column: usize, slot: TagSlot) -> bool
         result ≡ set.contains (differing tags (tags_left_of (take column line.now.columns))) slot.0 }
 {
     is_on != line.is_odd_left_of(column, slot)
+}
+
+/// Toggles a slot before the character at a column of a line if it isn't on there as it is to be.
+fn switch(
+    line: &mut Line,
+    column: usize,
+    slot: TagSlot,
+    was_on: bool,
+    is_on: bool,
+) -> Result<(), AllocError>
+    requires slot { slot.0 < slot_count }
+    requires within { column < length line.old.columns }
+    ensures { OnOk result ((tags : Slots) → was_on ≡ set.contains tags slot.0 →
+        line.new ≡ with_toggled column (differing tags (set_slot slot.0 is_on tags)) line.old) }
+{
+    if was_on == is_on {
+        return Ok(());
+    }
+    line.toggle_slot(column, slot)
 }
 
 /// Toggles each slot of a set before the characters at two columns of a line.
@@ -141,12 +159,12 @@ fn set_tag<L: LineList>(
         return Ok(None);
     }
     let was_on = list.is_odd(slot, index);
-    let first = switched_slot(is_on_before(was_on, here, column, slot), slot, is_on);
-    let last = switched_slot(is_on_before(was_on, here, end, slot), slot, is_on);
+    let first = is_on_before(was_on, here, column, slot);
+    let last = is_on_before(was_on, here, end, slot);
     let mut line = here.try_clone()?;
     line.clear(slot, column, end);
-    line.toggle(column, &first)?;
-    line.toggle(end, &last)?;
+    switch(&mut line, column, slot, first, is_on)?;
+    switch(&mut line, end, slot, last, is_on)?;
     Ok(Some(LineChange {
         taken: None,
         index,

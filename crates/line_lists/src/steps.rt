@@ -1,8 +1,6 @@
 //! Applies the steps of an edit to a draft: text, slots and marks, by offsets in characters.
 
 ghost use Rattle.std.specs.Prelude.{◌≡◌, ◌+◌, ◌<◌, ◌≤◌, IfOk, OnOk, chars, length, take};
-ghost use Rattle.std.specs.FinSet as set;
-ghost use Rattle.text_model.specs.Content.{Slots};
 ghost use Rattle.text_model.specs.SlotSets.{differing};
 ghost use Rattle.text_model.specs.Steps.{Fits, StepFitsIn, after, set_slot};
 ghost use Rattle.text_model.specs.TagBits.{slot_count};
@@ -19,26 +17,16 @@ use crate::lists::LineList;
 use std::alloc::AllocError;
 use text_model::{MarkNo, Place, Step, TagSet, TagSlot, count_characters};
 
-/// Returns the slots that change where one is put in a set, or taken out: none, or that one. `was_on` says whether it is
-/// in the set.
-pub fn switched_slot(was_on: bool, slot: TagSlot, is_on: bool) -> TagSet
-    requires { slot.0 < slot_count }
-    ensures { (before : Slots) → was_on ≡ set.contains before slot.0 →
-        result ≡ differing before (set_slot slot.0 is_on before) }
-{
-    if was_on == is_on {
-        TagSet::empty()
-    } else {
-        TagSet::empty().with(slot)
-    }
-}
-
-/// The same where the set is at hand.
+/// The slots that change where one is put in a set, or taken out.
 pub fn switched_slots(before: &TagSet, slot: TagSlot, is_on: bool) -> TagSet
     requires { slot.0 < slot_count }
     ensures { result ≡ differing before.now (set_slot slot.0 is_on before.now) }
 {
-    switched_slot(before.has(slot), slot, is_on)
+    if before.has(slot) == is_on {
+        TagSet::empty()
+    } else {
+        TagSet::empty().with(slot)
+    }
 }
 
 impl<'a, L: LineList> Draft<'a, L> {

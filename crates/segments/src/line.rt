@@ -186,7 +186,10 @@ impl Line {
     pub fn is_odd(&self, slot: TagSlot) -> bool
         ensures { result ≡ set.contains (line_count self.now).parity slot.0 }
     {
-        self.is_odd_left_of(self.len(), slot)
+        match &self.form {
+            Form::Plain(_) => false,
+            Form::Rich(line) => line.is_odd(slot),
+        }
     }
 
     /// The first column from one on before which a slot is toggled.
@@ -439,6 +442,22 @@ impl Line {
             self.form.enrich(self.alloc)?;
         }
         self.form.toggle(column, slots)
+    }
+
+    /// Toggles a slot before the character at a column.
+    pub fn toggle_slot(&mut self, column: usize, slot: TagSlot) -> Result<(), AllocError>
+        requires slot { slot.0 < slot_count }
+        requires within { column < length self.old.columns }
+        ensures columns { OnOk result (self.new.columns
+            ≡ changed (toggled_more (set.insert set.empty slot.0)) column (column + 1) self.old.columns) }
+        ensures marks { self.new.marks ≡ self.old.marks }
+        ensures refused { OnErr result (self.new ≡ self.old) }
+    {
+        self.form.enrich(self.alloc)?;
+        match &mut self.form {
+            Form::Plain(_) => unreachable!(),
+            Form::Rich(line) => line.toggle_slot(column, slot),
+        }
     }
 
     /// Takes the toggles of a slot before the characters from one column to another away, which takes no memory.

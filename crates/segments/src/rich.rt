@@ -198,6 +198,13 @@ impl RichLine {
         odd_slots(&self.toggles[..count])
     }
 
+    /// Returns whether a slot is toggled an odd number of times in the line.
+    pub fn is_odd(&self, slot: TagSlot) -> bool
+        ensures { result ≡ set.contains (line_count self.now).parity slot.0 }
+    {
+        is_odd(&self.toggles, slot)
+    }
+
     /// Returns whether a slot is toggled an odd number of times to the left of a column.
     pub fn is_odd_left_of(&self, column: usize, slot: TagSlot) -> bool
         requires { column ≤ length self.now.columns }
@@ -483,6 +490,18 @@ impl RichLine {
         ensures refused { OnErr result (self.new ≡ self.old) }
     {
         flip(&mut self.toggles, column, slots)
+    }
+
+    /// Toggles a slot before the character at a column.
+    pub fn toggle_slot(&mut self, column: usize, slot: TagSlot) -> Result<(), AllocError>
+        requires slot { slot.0 < slot_count }
+        requires within { column < length self.old.columns }
+        ensures columns { OnOk result (self.new.columns
+            ≡ changed (toggled_more (set.insert set.empty slot.0)) column (column + 1) self.old.columns) }
+        ensures marks { self.new.marks ≡ self.old.marks }
+        ensures refused { OnErr result (self.new ≡ self.old) }
+    {
+        flip_slot(&mut self.toggles, column, slot)
     }
 
     /// Takes the toggles of a slot before the characters from one column to another away, which takes no memory.
