@@ -1,7 +1,8 @@
 -- Which slots change where one is put in a set, or taken out of it: none, or that one.
 use Rattle.line_lists.proofs.Common.{◌≡◌, ℕ, Bool, true, false, not, ◌&&◌, ◌||◌, ◌==◌, refl, sym, ap, ◌∙◌, arith}
 use Rattle.line_lists.proofs.Common.{false≢true, nat_tests, nat_cmp_total, unsigned_tied, nat_cmp, Slots, differing}
-use Rattle.line_lists.proofs.Common.{set_slot, contains-differing, either, same_slots}
+use Rattle.line_lists.proofs.Common.{set_slot, contains-differing, either, same_slots, ap₂}
+use Rattle.segments.proofs.EntryLaws.{unequal}
 use Rattle.std.specs.Bool.{beq}
 use Rattle.text_model.specs.TagBitLaws.{contains_inserted}
 use Rattle.std.specs.FinSet as set
@@ -76,3 +77,9 @@ opposite true true e = absurd (false≢true (sym e))
 opposite true false e = refl
 opposite false true e = refl
 opposite false false e = absurd (false≢true (sym e))
+
+-- whether a slot is in one of two sets alone
+pub in_one : (first second : Slots) (slot : ℕ) (a b : Bool) → a ≡ set.contains first slot →
+    b ≡ set.contains second slot → not (beq a b) ≡ set.contains (differing first second) slot
+in_one first second slot a b in_first in_second =
+    unequal a b ∙ ap₂ either in_first in_second ∙ sym (contains-differing first second slot)

@@ -76,7 +76,11 @@ pub fn has_tag<L: LineList>(list: &L, offset: usize, slot: TagSlot) -> bool
     requires known { slot.0 < slot_count }
     ensures { slice_get (flags slot.0 (content_of (L.lines list.now)).cells) offset ≡ Some result }
 {
-    tags_at(list, offset).has(slot)
+    if list.is_bare() {
+        return false;
+    }
+    let (index, column, line) = list.line_at(offset);
+    list.is_odd(slot, index) != line.is_odd_left_of(column + 1, slot)
 }
 
 /// The offset of the first character of a line; the length for the line behind the last.
