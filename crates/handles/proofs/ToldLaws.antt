@@ -1,122 +1,15 @@
 -- What a command makes of a session, where it tells and where it doesn't.
-use Rattle.handles.proofs.Common.{◌≡◌, ◌≢◌, Bool, true, false, ◌⊎◌, inl, inr, List, ℕ, refl, sym, subst, ap, true≢false}
-use Rattle.handles.proofs.Common.{Ok, Result, is_ok, is_err, encode_utf8_all, if◌then◌else◌, Unread, TakesCommand}
-use Rattle.handles.proofs.Common.{StopsAt, HasNoCommand, Given, TurnEnd, CallEnd, Gives, Called, Turns, given_of}
-use Rattle.handles.proofs.Common.{status_after, State, Telling, memory_said, said_text, untold, GivesTold, CalledTold}
-use Rattle.handles.proofs.Common.{IsTold, TurnsTold, cut, words_at, AreLengths, AreTexts, [], None, Err}
+use Rattle.handles.proofs.Common.{◌≡◌, ◌≢◌, Bool, true, false, List, ℕ, refl, sym, subst, ap, true≢false, if◌then◌else◌}
+use Rattle.handles.proofs.Common.{Unread, TakesCommand, StopsAt, HasNoCommand, Given, TurnEnd, CallEnd, Gives, Called}
+use Rattle.handles.proofs.Common.{Turns, status_after, State, said_text, untold, GivesTold, CalledTold, IsTold}
+use Rattle.handles.proofs.Common.{TurnsTold, cut, words_at, AreLengths, AreTexts, [], None}
 use Rattle.tcl_words.specs.declared.fault.ScriptFault.{ScriptFault}
-use Rattle.command_effects.specs.declared.answers.Answer.{Answer}
-use Rattle.command_effects.specs.declared.answers.Fault.{Fault}
-use Rattle.peers.specs.Step.{step, Makes}
 use Rattle.peers.specs.World.{World}
-use Rattle.script_cli.specs.Lines.{piece}
 use Rattle.handles.proofs.CallLaws.{turns-on}
-use Rattle.command_effects.specs.declared.answers.Fault.TheVariants as fault
 use Rattle.handles.specs.declared.ends.Given.TheVariants as given
 use Rattle.handles.specs.declared.ends.TurnEnd.TheVariants as turn
 use Rattle.handles.specs.declared.ends.CallEnd.TheVariants as call
 use Rattle.handles.specs.declared.session.Said.TheVariants as says
-
--- ---- a command of the world
-
--- a state in which the command of some words is answered
-abbrev pub replied : State → World → List (List ℕ) → Result Answer Fault → State
-replied old world words reply = record old {
-  world = world;
-  words = words;
-  said = encode_utf8_all (piece words reply);
-}
-
--- a fault is want of memory, or given as a fault
-fault-given : (cause : Fault) → (cause ≡ fault.Memory) ⊎ ((cause ≢ fault.Memory) × (given_of (Err cause) ≡ given.Fault))
-fault-given fault.Memory = inl refl
-fault-given cause = inr (λ is. (cc), refl)
-
-gives-answer : (old : State) (world : World) (words : List (List ℕ)) (answer : Answer)
-    → Makes old.world world (Ok answer) (step old.world words)
-    → Gives old words (replied old world words (Ok answer)) given.Answer
-gives-answer old world words answer makes =
-    let same : Ok answer ≡ (step old.world words).reply = makes.reply (λ is. (cc)) in
-    let moved : world ≡ (step old.world words).world = makes.world (λ is. (cc)) in (
-      sym (ap is_ok same),
-      λ i. record old { world = moved i; words = words; said = encode_utf8_all (piece words (same i)) },
-    )
-
-gives-fault : (old : State) (world : World) (words : List (List ℕ)) (cause : Fault)
-    → Makes old.world world (Err cause) (step old.world words) → cause ≢ fault.Memory
-    → Gives old words (replied old world words (Err cause)) given.Fault
-gives-fault old world words cause makes other =
-    let apart : ◌≢◌ {A = Result Answer Fault} (Err cause) (Err fault.Memory) = λ is. other (cc) in
-    let same : Err cause ≡ (step old.world words).reply = makes.reply apart in
-    let moved : world ≡ (step old.world words).world = makes.world apart in (
-      sym (ap is_err same),
-      λ i. record old { world = moved i; words = words; said = encode_utf8_all (piece words (same i)) },
-      makes.refused,
-    )
-
-gives-memory : (old : State) (world : World) (words : List (List ℕ)) → world ≡ old.world
-    → Gives old words (replied old world words (Err fault.Memory)) given.Memory
-gives-memory old world words refused = λ i. record old { world = refused i; words = words; said = memory_said }
-
--- what is given of a reply that isn't an answer
-pub gives-refused : (old : State) (world : World) (words : List (List ℕ)) (cause : Fault)
-    → Makes old.world world (Err cause) (step old.world words)
-    → Gives old words (replied old world words (Err cause)) (given_of (Err cause))
-    × (given_of (Err cause) ≢ given.Answer)
-gives-refused old world words cause makes =
-    elim (fault-given cause) as (λ _. Gives old words (replied old world words (Err cause)) (given_of (Err cause))
-    × (given_of (Err cause) ≢ given.Answer)) [
-      | inl is ↦ subst (λ (f : Fault). Gives old words (replied old world words (Err f)) (given_of (Err f))
-          × (given_of (Err f) ≢ given.Answer)) (sym is)
-          (gives-memory old world words makes.refused, λ same. (cc))
-      | inr other ↦ subst (λ (g : Given). Gives old words (replied old world words (Err cause)) g × (g ≢ given.Answer))
-          (sym other.1)
-          (gives-fault old world words cause makes other.0, λ same. (cc))
-    ]
-
--- what is given otherwise than by an answer tells nothing
-gives-untold : (marks : Bool) (old : State) (words : List (List ℕ)) (new : State) (outcome : Given)
-    → Gives old words new outcome → outcome ≢ given.Answer → GivesTold marks old words new outcome
-gives-untold marks old words new given.Answer gives other = absurd (other refl)
-gives-untold marks old words new given.Fault gives other = gives
-gives-untold marks old words new given.Memory gives other = gives
-
--- the command is answered, its changes are kept, and the answer is said
-pub gives_told-answer : (marks : Bool) (old new : State) (world : World) (words shown : List (List ℕ)) (answer : Answer)
-    (telling : Telling) (outcome : Given)
-    → shown ≡ words → Makes old.world world (Ok answer) (step old.world shown)
-    → IsTold marks old.world world shown telling
-    → new ≡ record (replied old world words (Ok answer)) { told = telling } → outcome ≡ given_of (Ok answer)
-    → GivesTold marks old words new outcome
-gives_told-answer marks old new world words shown answer telling outcome same makes tells said is =
-    let made = subst (λ (ws : List (List ℕ)). Makes old.world world (Ok answer) (step old.world ws)) same makes in
-    let told = subst (λ (ws : List (List ℕ)). IsTold marks old.world world ws telling) same tells in
-    let plain = gives-answer old world words answer made in
-    let path = plain.1 in
-    subst (λ (g : Given). GivesTold marks old words new g) (sym is)
-    (subst (λ (n : State). GivesTold marks old words n given.Answer) (sym said)
-    (plain.0, λ i. record (path i) { told = telling }, told))
-
--- memory is refused before the command, and that is said
-pub gives_told-memory : (marks : Bool) (old new : State) (words : List (List ℕ)) (outcome : Given)
-    → new ≡ replied old old.world words (Err fault.Memory) → outcome ≡ given_of (Err fault.Memory)
-    → GivesTold marks old words new outcome
-gives_told-memory marks old new words outcome said is =
-    subst (λ (g : Given). GivesTold marks old words new g) (sym is)
-    (subst (λ (n : State). GivesTold marks old words n given.Memory) (sym said) (gives-memory old old.world words refl))
-
--- the command is refused, and its fault is said
-pub gives_told-fault : (marks : Bool) (old new : State) (world : World) (words shown : List (List ℕ)) (cause : Fault)
-    (outcome : Given)
-    → shown ≡ words → Makes old.world world (Err cause) (step old.world shown)
-    → new ≡ replied old world words (Err cause) → outcome ≡ given_of (Err cause)
-    → GivesTold marks old words new outcome
-gives_told-fault marks old new world words shown cause outcome same makes said is =
-    let made = subst (λ (ws : List (List ℕ)). Makes old.world world (Err cause) (step old.world ws)) same makes in
-    let plain = gives-refused old world words cause made in
-    subst (λ (g : Given). GivesTold marks old words new g) (sym is)
-    (subst (λ (n : State). GivesTold marks old words n (given_of (Err cause))) (sym said)
-    (gives-untold marks old words (replied old world words (Err cause)) (given_of (Err cause)) plain.0 plain.1))
 
 -- ---- words that stand in bytes
 

@@ -1,18 +1,22 @@
 -- What a command that tells makes of a session, and what C reads of it.
-use Rattle.std.specs.Prelude.{◌≡◌, ℕ, Bool, true, false, ◌||◌, List, [], ◌∷◌, length, Option, Some, None, IsSome}
-use Rattle.std.specs.Prelude.{is_ok, slice_get, chars, encode_utf8_all, option_map, ◌==◌, IsUtf8, if◌then◌else◌}
+use Rattle.std.specs.Prelude.{◌≡◌, ◌≢◌, ℕ, Bool, true, false, ◌||◌, List, [], ◌∷◌, length, Option, Some, None, IsSome}
+use Rattle.std.specs.Prelude.{Result, Ok, Err, is_ok, slice_get, chars, encode_utf8_all, option_map, ◌==◌, IsUtf8}
+use Rattle.std.specs.Prelude.{if◌then◌else◌}
 use Rattle.text_model.specs.declared.places.Place.{Place}
 use Rattle.tcl_words.specs.Unread.{TakesCommand}
 use Rattle.edit_ops.specs.declared.changes.TextChange.{TextChange}
 use Rattle.edit_ops.specs.declared.spots.Spot.{Spot}
 use Rattle.command_effects.specs.Words.{literal}
+use Rattle.command_effects.specs.declared.answers.Answer.{Answer}
+use Rattle.command_effects.specs.declared.answers.Fault.{Fault}
+use Rattle.command_effects.specs.declared.answers.Fault.TheVariants as fault
 use Rattle.documents.specs.Documents.{sel}
 use Rattle.documents.specs.declared.mark_lists.MarkChange.{MarkChange}
 use Rattle.documents.specs.declared.mark_lists.MarkKind.{MarkKind}
 use Rattle.documents.specs.declared.mark_lists.MarkKind.TheVariants.{Insert, Current, Shared}
 use Rattle.reports.specs.declared.tag_lists.TagChange.{TagChange}
 use Rattle.peers.specs.Concerned.{homes_asked, is_at, is_one, text_of_words}
-use Rattle.peers.specs.Step.{step}
+use Rattle.peers.specs.Step.{step, Makes}
 use Rattle.peers.specs.MarksTold.{MarksTellOf}
 use Rattle.peers.specs.Told.{TellsOf}
 use Rattle.peers.specs.Windows.{Homes, home_in}
@@ -53,6 +57,15 @@ GivesTold marks old words new given.Answer =
     (is_ok (step old.world words).reply ≡ true) × (new ≡ record (stepped old words) { told = new.told })
     × IsTold marks old.world new.world words new.told
 GivesTold marks old words new given = Gives old words new given
+
+-- From old to new a command is answered, and its report is kept; or it is refused, and nothing changes. Its output is
+-- kept later.
+abbrev pub RepliesTold : (marks : Bool) → State → List (List ℕ) → State → Result Answer Fault → Type 0
+RepliesTold marks old words new (Ok answer) =
+    Makes old.world new.world (Ok answer) (step old.world words)
+    × (new ≡ record old { world = new.world; told = new.told }) × IsTold marks old.world new.world words new.told
+RepliesTold marks old words new (Err cause) =
+    (new ≡ old) × (cause ≢ fault.Memory → Makes old.world new.world (Err cause) (step old.world words))
 
 -- The same of words that stand in bytes, unless they are none.
 abbrev pub CalledTold : (marks : Bool) → State → List ℕ → List ℕ → State → CallEnd → Type 0

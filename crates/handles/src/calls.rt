@@ -42,6 +42,7 @@ impl Handle {
     }
 
     /// Carries out a command, and keeps its report where `tells` asks for it, with its marks where `marks` does.
+    #[inline(always)]
     pub fn call(
         &mut self,
         alloc: Global,

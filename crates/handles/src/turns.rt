@@ -4,9 +4,8 @@ ghost use Rattle.std.specs.Prelude.{chars, encode_utf8_all};
 ghost use Rattle.tcl_words.specs.Unread.{texts_of};
 ghost use Rattle.script_cli.specs.Lines.{piece};
 ghost use Rattle.handles.specs.Calls.{Called, Fed, Gives, Tells, Turns, can_by, finished, given_of, status_after};
-ghost use Rattle.peers.specs.Concerned.{homes_asked};
 ghost use Rattle.handles.specs.Told.{CalledTold, Concerns, GivesTold, TurnsTold, concerns, untold};
-ghost use Rattle.handles.specs.Told.{word_given};
+ghost use Rattle.handles.specs.Told.{word_given, RepliesTold};
 ghost use Rattle.handles.specs.Room.{over};
 ghost use Rattle.handles.specs.State.{said_text, start, state_of, telling_of};
 
@@ -15,7 +14,7 @@ use crate::report::Report;
 use crate::room::{copy_line, copy_whole};
 use crate::session::{Said, Session};
 use crate::words::{WordsFault, read_words};
-use peers::{Answer, Fault, Windows, World};
+use peers::{Answer, Fault, World};
 use script_cli::Line;
 use std::alloc::Global;
 use std::mem;
@@ -72,6 +71,7 @@ impl Session {
     }
 
     /// Forgets what was told last, where the next command tells.
+    #[inline(always)]
     fn forget_told(&mut self, alloc: Global, tells: bool)
         ensures { state_of self.new ≡ (if tells then untold (state_of self.old) else state_of self.old) }
     {
@@ -88,43 +88,28 @@ impl Session {
         ensures told { tells ≡ true →
             GivesTold marks (state_of self.old) (texts_of words.items) (state_of self.new) result }
     {
-        if tells {
-            self.call_told(marks, words)
+        let reply = if tells {
+            self.call_told(marks, &words)
         } else {
-            let reply = self.world.call(&words);
-            self.say(words, reply)
-        }
+            self.world.call(&words)
+        };
+        self.say(words, reply)
     }
 
-    /// Carries out the command of some words, and keeps its report, with its marks where these are wanted.
-    fn call_told(&mut self, marks: bool, words: Vec<String>) -> Given
-        requires { 0 < vec_len words }
-        ensures { GivesTold marks (state_of self.old) (texts_of words.items) (state_of self.new) result }
+    /// Returns the reply to the command of some words, and keeps its report, with its marks where these are wanted.
+    fn call_told(&mut self, marks: bool, words: &[String]) -> Result<Answer, Fault>
+        requires { 0 < length words.now }
+        ensures { RepliesTold marks (state_of self.old) (texts_of words.now) (state_of self.new) result }
     {
-        match self.world.homes_before(&words, marks) {
-            Err(_) => self.say(words, Err(Fault::Memory)),
-            Ok(homes) => self.call_with_homes(homes, marks, words),
-        }
-    }
-
-    /// The same, where it is known what the report needs of where widgets were.
-    fn call_with_homes(&mut self, homes: Windows, marks: bool, words: Vec<String>) -> Given
-        requires words { 0 < vec_len words }
-        requires homes { homes ≡ homes_asked marks (state_of self.old).world.documents (texts_of words.items) }
-        ensures { GivesTold marks (state_of self.old) (texts_of words.items) (state_of self.new) result }
-    {
-        match self.world.call_told(&words, marks) {
-            Ok(told) => {
-                self.report = Report {
-                    edit: told.edit,
-                    marks: told.marks,
-                    text: self.world.home_of_words(&words),
-                    homes,
-                };
-                self.say(words, Ok(told.answer))
-            }
-            Err(fault) => self.say(words, Err(fault)),
-        }
+        let homes = self.world.homes_before(words, marks)?;
+        let told = self.world.call_told(words, marks)?;
+        self.report = Report {
+            edit: told.edit,
+            marks: told.marks,
+            text: self.world.home_of_words(words),
+            homes,
+        };
+        Ok(told.answer)
     }
 
     /// Moves the report out, and leaves none. It allocates nothing.
