@@ -1,6 +1,7 @@
 -- Texts that are copied one behind the other.
 use Rattle.handles.proofs.Common.{◌≡◌, ℕ, suc, zero, ◌+◌, ◌≤◌, min, arith, List, [], ◌∷◌, ◌++◌, length, take, drop}
-use Rattle.handles.proofs.Common.{refl, sym, ap, subst, ◌∙◌, append_assoc, length-append, over, Copied}
+use Rattle.handles.proofs.Common.{refl, sym, ap, subst, ◌∙◌, append_assoc, length-append, over, Copied, encode_utf8_all}
+use Rattle.handles.proofs.Common.{encodes-append, encode_ascii}
 
 pub over-none : (room : List ℕ) → room ≡ over [] room
 over-none [] = refl
@@ -61,3 +62,10 @@ copied-as text wanted start room total same count copied = (
   subst (λ (t : List ℕ). total ≡ min (length t) 18446744073709551615) same count,
   subst (λ (t : List ℕ). room ≡ over t start) same copied,
 )
+
+-- the bytes of a text and a newline
+pub text-line : (bytes text : List ℕ) → bytes ≡ encode_utf8_all text
+    → bytes ++ 10 ∷ [] ≡ encode_utf8_all (text ++ 10 ∷ [])
+text-line bytes text is =
+    let newline : encode_utf8_all (10 ∷ []) ≡ 10 ∷ [] = ap (λ b. b ++ []) (encode_ascii 10 (omega arith)) in
+    ap (λ b. b ++ 10 ∷ []) is ∙ ap (λ b. encode_utf8_all text ++ b) (sym newline) ∙ sym (encodes-append text (10 ∷ []))

@@ -18,6 +18,15 @@ pub(crate) fn copy_line(line: &Line, room: &mut [u8]) -> usize
     copy_next(room, total, after)
 }
 
+/// Copies the prefix of a text and the one after it that fits into the buffer, and returns the length of both.
+pub(crate) fn copy_two(text: &str, after: &str, room: &mut [u8]) -> usize
+    ensures length { result ≡ min (length (text.now ++ after.now)) usize.MAX }
+    ensures copied { room.new ≡ over (text.now ++ after.now) room.old }
+{
+    let total = copy_next(room, 0, text);
+    copy_next(room, total, after)
+}
+
 /// Copies a text to the front of the room, as far as it goes, and gives the length of it all.
 pub(crate) fn copy_whole(text: &str, room: &mut [u8]) -> usize
     ensures length { result ≡ min (length text.now) usize.MAX }
@@ -31,6 +40,9 @@ fn copy_next(room: &mut [u8], total: usize, text: &str) -> usize
     ensures { (done start : List ℕ) → Copied done start total room.old
         → Copied (done ++ text.now) start result room.new }
 {
+    if text.is_empty() {
+        return total;
+    }
     let at = total.min(room.len());
     copy_text(room, at, text.as_bytes());
     total.saturating_add(text.len())

@@ -11,7 +11,7 @@ ghost use Rattle.handles.specs.State.{said_text, start, state_of, telling_of};
 
 use crate::ends::{CallEnd, FeedEnd, Given, TurnEnd, Way};
 use crate::report::Report;
-use crate::room::{copy_line, copy_whole};
+use crate::room::{copy_line, copy_two, copy_whole};
 use crate::session::{Said, Session};
 use crate::words::{WordsFault, read_words};
 use peers::{Answer, Fault, World};
@@ -278,6 +278,9 @@ impl Session {
     {
         match &self.said {
             Said::Nothing => 0,
+            // Most replies are a text or none: for these no line is made.
+            Said::Reply(Ok(Answer::Empty)) => copy_whole("\n", room),
+            Said::Reply(Ok(Answer::Text(text))) => copy_two(text.as_str(), "\n", room),
             Said::Reply(reply) => copy_line(&Line::of_reply(&self.words, reply), room),
             Said::Fault(fault) => copy_line(&Line::of_script_fault(*fault), room),
         }
