@@ -32,7 +32,7 @@ pub fn mark_set<S: TextStore>(
 {
     let (name, word) = request.two()?;
     let seat = request.caller.seat;
-    let place = document.place_at(seat, request.position + 1, word)?;
+    let place = document.seek(seat, request.position + 1, word)?;
     let offset = document.mark_offset(seat, name, place);
     match document.place_named(seat, name) {
         None => document.make_mark(request.caller.limits, seat, name, offset),

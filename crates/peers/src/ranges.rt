@@ -14,23 +14,24 @@ use text_model::TextStore;
 
 /// The places of indices, the first of which stands at a position.
 pub fn places_at<S: TextStore>(
-    document: &Document<S>,
+    document: &mut Document<S>,
     seat: usize,
     position: usize,
     words: &[String],
 ) -> Result<Vec<usize>, Fault>
-    requires shown { seat < length document.now.widgets }
+    requires shown { seat < length document.old.widgets }
     requires near { position + length words.now ≤ usize.MAX }
+    ensures same { document.new ≡ document.old }
     ensures ok { IfOk result (λ places.
-        places_at document.now (widget_at document.now seat) position (texts_of words.now) ≡ Ok places.items) }
+        places_at document.old (widget_at document.old seat) position (texts_of words.now) ≡ Ok places.items) }
     ensures err { IfErr result (λ fault. fault ≢ Memory →
-        places_at document.now (widget_at document.now seat) position (texts_of words.now) ≡ Err fault) }
+        places_at document.old (widget_at document.old seat) position (texts_of words.now) ≡ Err fault) }
     ensures within { IfOk result (λ places. All (λ place. place
-        ≤ length (shown document.now (widget_at document.now seat))) places.items) }
+        ≤ length (shown document.old (widget_at document.old seat))) places.items) }
 {
     let mut places = Vec::with_capacity(document.allocator(), words.len())?;
     for (index, word) in words.iter().enumerate() {
-        let place = document.place_at(seat, position + index, word.as_str())?;
+        let place = document.seek(seat, position + index, word.as_str())?;
         places.push(place)?;
     }
     Ok(places)

@@ -84,10 +84,11 @@ fn got<S: TextStore>(document: &Document<S>, seat: usize, places: &[usize]) -> R
 }
 
 /// `W get I ?I ..?` (text(n), "get").
-pub fn get<S: TextStore>(document: &Document<S>, request: &Request<'_>) -> Result<Answer, Fault>
-    requires shown { request.now.caller.seat < length document.now.widgets }
-    ensures { Gives result
-        (get document.now (widget_of document.now request.now) request.now.position (words_of request.now)) }
+pub fn get<S: TextStore>(document: &mut Document<S>, request: &Request<'_>) -> Result<Answer, Fault>
+    requires shown { request.now.caller.seat < length document.old.widgets }
+    ensures same { document.new ≡ document.old }
+    ensures value { Gives result
+        (get document.old (widget_of document.old request.now) request.now.position (words_of request.now)) }
 {
     let seat = request.caller.seat;
     let places = places_at(document, seat, request.position, request.arguments)?;

@@ -1,5 +1,5 @@
-use Rattle.peers.proofs.Common.{◌≡◌, Ok, subst, sym, chars, texts_of, widget_of, words_of, Does, Empty, insertion_at}
-use Rattle.peers.proofs.Common.{reply_of}
+use Rattle.peers.proofs.Common.{◌≡◌, Ok, subst, sym, chars, texts_of, widget_of, words_of, widget_at, Does}
+use Rattle.peers.proofs.Common.{Empty, Document, insert_at, insertion_at, reply_of}
 use Rattle.peers.proofs.InsertLaws.{inserted, inserted_at, inserted-nothing, no-pairs, no-place}
 use Rattle.peers.proofs.PromiseLaws.{fault-defined, faulted, value-defined}
 use Rattle.peers.proofs.texts.insert.Given.{Over}
@@ -12,7 +12,7 @@ returns-in_err-at-clause-does g c =
     let widget = widget_of document request in
     let index = chars c.in_ok-index.index.now in
     let fault = c.in_err-at.field-0.0 in
-    rw (faulted c.from_residual-in_err-at.result fault c.from_residual-in_err-at.ensures)
+    rw (faulted c.from_residual-in_err-at.result fault c.from_residual-in_err-at.ensures, c.insertion_at.ensures.same)
     (no-place request.caller.limits.now document widget request.position (words_of request) index
     (texts_of c.in_ok-index.words.now) c.in_ok-index.ensures.ok fault (fault-defined c.insertion_at.result
     (insertion_at document widget request.position index) fault c.insertion_at.ensures.value c.in_err-at.was))
@@ -31,7 +31,10 @@ returns-in_err-pairs-clause-does g c =
     let document = c.args.document.now in let request = c.args.request.now in
     let widget = widget_of document request in
     let fault = c.in_err-pairs.field-0.0 in
-    rw (faulted c.from_residual-in_err-pairs.result fault c.from_residual-in_err-pairs.ensures)
+    rw (
+      faulted c.from_residual-in_err-pairs.result fault c.from_residual-in_err-pairs.ensures,
+      c.insertion_at.ensures.same,
+    )
     (no-pairs request.caller.limits.now document widget request.position (words_of request)
     (chars c.in_ok-index.index.now) (texts_of c.in_ok-index.words.now) c.in_ok-index.ensures.ok c.in_ok-at.at
     (there g (goal.at.returns-in_err-pairs-clause-does g c).In_ok-at) fault c.in_err-pairs.ensures.err)
@@ -41,19 +44,23 @@ returns-in-Some-clause-does g c =
     let document = c.args.document.now in let request = c.args.request.now in
     let widget = widget_of document request in
     let limits = request.caller.limits.now in
+    let does = subst (λ (document : Document). Does limits document c.insert_at.new.self (reply_of c.insert_at.result)
+    (insert_at limits document (widget_at document request.caller.seat) c.in-Some.offset c.in_ok-pairs.pairs.items))
+    c.insertion_at.ensures.same c.insert_at.ensures.does in
     inserted limits document widget request.position (words_of request)
     (chars c.in_ok-index.index.now) (texts_of c.in_ok-index.words.now) c.in_ok-index.ensures.ok c.in_ok-at.at
     (there g (goal.at.returns-in-Some-clause-does g c).In_ok-at) c.in_ok-pairs.pairs.items c.in_ok-pairs.ensures.ok
     (subst (λ at. Does limits document c.insert_at.new.self (reply_of c.insert_at.result)
-    (inserted_at limits document widget at c.in_ok-pairs.pairs.items)) (sym c.in-Some.is) c.insert_at.ensures.does)
+    (inserted_at limits document widget at c.in_ok-pairs.pairs.items)) (sym c.in-Some.is) does)
 
 pub returns-in-None-clause-does : goal.returns-in-None-clause-does
 returns-in-None-clause-does g c =
     let document = c.args.document.now in let request = c.args.request.now in
     let widget = widget_of document request in
     let limits = request.caller.limits.now in
-    inserted limits document widget request.position (words_of request)
+    rw c.insertion_at.ensures.same
+    (inserted limits document widget request.position (words_of request)
     (chars c.in_ok-index.index.now) (texts_of c.in_ok-index.words.now) c.in_ok-index.ensures.ok c.in_ok-at.at
     (there g (goal.at.returns-in-None-clause-does g c).In_ok-at) c.in_ok-pairs.pairs.items c.in_ok-pairs.ensures.ok
     (subst (λ at. Does limits document document (Ok Empty) (inserted_at limits document widget at
-    c.in_ok-pairs.pairs.items)) (sym c.in-None.is) (inserted-nothing limits document))
+    c.in_ok-pairs.pairs.items)) (sym c.in-None.is) (inserted-nothing limits document)))
