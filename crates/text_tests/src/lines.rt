@@ -8,7 +8,7 @@ use segments::Line;
 use std::alloc::{AllocError, Global};
 use std::process::Abort;
 use std::test::Fail;
-use text_model::{Gravity, MarkNo, Place, TagSet, WORDS};
+use text_model::{Gravity, MarkNo, Place, TagSet, TagSlot, WORDS};
 use toggle_sums::Sums;
 
 // What is done to a line. A slot is one of `SLOTS`, by its index.
@@ -303,6 +303,9 @@ fn toggle(line: &mut Line, step: &Step) -> Result<bool, AllocError> {
         Step::SetToggle(column, index, is_on) if *column < line.len() && *index < 4 => {
             line.set_toggle(*column, SLOTS[*index], *is_on)?;
         }
+        Step::Toggle(column, [slot]) if *column < line.len() && *slot < TagSet::SLOTS => {
+            line.toggle_slot(*column, TagSlot(*slot))?;
+        }
         Step::Toggle(column, slots) if *column < line.len() => {
             line.toggle(*column, &tags_of(slots))?;
         }
@@ -347,6 +350,9 @@ fn slot(line: &Line, index: usize) -> Answer
     let sum = line.sum();
     let slot = SLOTS[index];
     if sum.parity(slot) != turned.has(slot) || sum.has(slot) != line.has_toggle(slot) {
+        return (NONE, NONE);
+    }
+    if line.is_odd(slot) != turned.has(slot) || line.is_odd_left_of(0, slot) {
         return (NONE, NONE);
     }
     (sum.parity(slot) as usize, sum.has(slot) as usize)

@@ -60,7 +60,7 @@ fn check_places<L: LineList>(rt: &impl Abort, list: &L)
     assert!(rt; line.len() == 2 && line.char_at(0) == 'b');
     let (index, column, line) = list.line_at(3);
     assert!(rt; index == 1 && column == 1 && line.len() == 2);
-    assert!(rt; list.start(2) == 4 && list.odd_slots(2).has(SLOT));
+    assert!(rt; list.start(2) == 4 && list.odd_slots(2).has(SLOT) && list.is_odd(SLOT, 2));
     let sums = list.prefix(1);
     assert!(rt; sums.lines() == 1 && sums.characters() == 2 && sums.marks() == 0);
     assert!(rt; list.marks() == 1);
@@ -93,6 +93,7 @@ fn check_text<L: LineList>(rt: &impl Abort, alloc: Global, list: &L) -> Result<(
 
 fn check<L: LineList>(rt: &impl Abort, alloc: Global) -> Result<(), AllocError> {
     let mut list: L = worked_list(alloc)?;
+    list.seek_line(1);
     check_places(rt, &list);
     check_text(rt, alloc, &list)?;
     check_found(rt, &list);

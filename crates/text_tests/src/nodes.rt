@@ -79,6 +79,7 @@ fn marks_and_toggles(rt: &impl Abort, store: &mut NodeStore<Steps>, line: Line)
     let mut steps = Steps::new();
     assert!(rt; store.marks(name, &mut steps) == 0);
     assert!(rt; !store.has_toggle(name, TagSlot(3), &mut steps));
+    assert!(rt; !store.is_odd(name, TagSlot(3), &mut steps));
     let mut slots = TagSet::empty().with(TagSlot(3));
     store.turn_odd_slots(name, &mut slots, &mut steps);
     assert!(rt; slots.has(TagSlot(3)) && store.is_bare(name, &mut steps));

@@ -304,7 +304,8 @@ fn check_rows<S: TextStore>(rt: &impl Abort, store: &S, rows: &[Row]) {
 }
 
 fn check_case<S: TextStore>(rt: &impl Abort, alloc: Global, case: &Case) -> Result<(), AllocError> {
-    let store: S = store_of(rt, alloc, case.steps)?;
+    let mut store: S = store_of(rt, alloc, case.steps)?;
+    store.seek_line(1);
     check_rows(rt, &store, case.rows);
     check_text(rt, &store, case.text)
 }

@@ -190,7 +190,8 @@ fn ask_before(tree: &LineTree<Steps>, query: Query, k: usize, ticks: &mut Steps)
     let sums = tree.prefix(k, ticks);
     match query {
         Query::Count => (tree.start(k, ticks), sums.marks()),
-        _ => (sums.lines(), tree.odd_slots(k, ticks).has(SLOT) as usize),
+        _ if tree.is_odd(SLOT, k, ticks) != tree.odd_slots(k, ticks).has(SLOT) => (NONE, NONE),
+        _ => (sums.lines(), tree.is_odd(SLOT, k, ticks) as usize),
     }
 }
 
