@@ -7,10 +7,10 @@ use Rattle.line_tree.proofs.Common.{none-some, same_Some, slice_get-map, slice_g
 use Rattle.line_tree.proofs.Common.{LineContent, plain_line, Named, contents, total, NodePtr, AreLines, IsCounted}
 use Rattle.line_tree.proofs.Common.{NumbersBelow, count_of, has_mark, next_line, spliced, whole, count-characters}
 use Rattle.line_tree.proofs.Common.{count-lines, FailFrom, NextAt, new-lines, IsPlaceAt, IsTable, holder, lines_without}
-use Rattle.line_tree.proofs.Common.{noted, IsLineAt, append_assoc, length-drop}
+use Rattle.line_tree.proofs.Common.{noted, IsLineAt, append_assoc, length-drop, AreRows, IsThere, LastLine}
 use Rattle.std.proofs.Common.{option_map}
-use Rattle.line_lists.specs.Lists.{Holds}
-use Rattle.line_tree.proofs.HolderLaws.{not-first}
+use Rattle.line_lists.specs.Lists.{Holds, IsMarked}
+use Rattle.line_tree.proofs.HolderLaws.{alone, not-first}
 use Rattle.line_tree.proofs.NearestLaws.{long, next-is, next-no}
 use Rattle.line_tree.proofs.PrefixLaws.{count-contents, count-first}
 use Rattle.std.specs.FinMap as finite
@@ -122,6 +122,28 @@ held-name n ls p k at = ap (option_map (λ (l : Named). l.0)) at.at
 pub held-next : (n : ℕ) (ls : List Named) (p : NodePtr) (k : ℕ) → HeldAt n ls p k →
     next_line (has_mark n) 0 (contents ls) ≡ Some k
 held-next n ls p k at = next-is (has_mark n) 0 (contents ls) k at.next
+
+-- a line that has it is the first that has it
+held-there : (n : ℕ) (ls : List Named) (p : NodePtr) (line : LineContent) (k : ℕ) → AreRows (contents ls) →
+    slice_get ls k ≡ Some (p, line) → has_mark n line ≡ true → HeldAt n ls p k
+held-there n [] p line k rows at has = absurd (none-some (p, line) at)
+held-there n (l ∷ ls) p line zero rows at has =
+    let same = same_Some l (p, line) at in
+    held-first n l ls p (ap (λ (m : Named). has_mark n m.1) same ∙ has) (ap (λ (m : Named). m.0) same)
+held-there n (l ∷ ls) p line (suc k) rows at has =
+    let before = (alone n (l ∷ ls) (suc k) (p, line) rows at has).0 in
+    held-behind n l ls p k (not-first n l (take k ls) before).0 (held-there n ls p line k rows.2 at has)
+
+-- the line that is remembered, if it has it
+pub marked-there : (n : ℕ) (ls : List Named) (last : LastLine) (line : LineContent) → AreLines (contents ls) →
+    IsThere ls last → slice_get ls last.index ≡ Some (last.name, line) → has_mark n line ≡ true →
+    IsMarked n (contents ls) last.start line
+marked-there n ls last line are there at has = record {
+  index = last.index;
+  first = held-next n ls last.name last.index (held-there n ls last.name line last.index are.rows at has);
+  starts = there.start;
+  there = listed ls last.index last.name line at;
+}
 
 -- ---- a splice
 pub fits-counted : (ls : List Named) (new : List LineContent) →

@@ -206,6 +206,12 @@ impl LineList for TreeLines {
     }
 
     fn marked_line(&self, number: MarkNo) -> Option<(usize, &Line)> {
+        if let Some(last) = self.last {
+            let line = self.tree.line(last.name);
+            if line.mark_place(number).is_some() {
+                return Some((last.start, line));
+            }
+        }
         let name = name_of(&self.names, number)?;
         let start = self.tree.start_of(name, &mut Steps::new());
         Some((start, self.tree.line(name)))

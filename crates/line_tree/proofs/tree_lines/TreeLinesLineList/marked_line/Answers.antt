@@ -1,6 +1,14 @@
-use Rattle.line_tree.proofs.Common.{◌≡◌, sym, ap, ◌∙◌, holder, noted}
-use Rattle.line_tree.proofs.ListedLaws.{held, held-name, held-next, listed, nowhere}
+use Rattle.line_tree.proofs.Common.{◌≡◌, sym, ap, ◌∙◌, subst, is_some, IfSome, IsThere, holder, noted}
+use Rattle.line_tree.proofs.ListedLaws.{held, held-name, held-next, listed, marked-there, nowhere}
 use Rattle.line_tree.proofs.tree_lines.TreeLinesLineList.marked_line.Goals as goal
+
+pub returns-then-is_some-clause-some : goal.returns-then-is_some-clause-some
+returns-then-is_some-clause-some c =
+    let list = c.args.self.now in let last = c.in-Some.last in
+    let there = subst (λ last. IfSome last (IsThere list.tree.lines)) c.in-Some.is list.remembered in
+    marked-there c.args.number.0 list.tree.lines last c.line-line.result.now list.are_lines there
+    (c.line-line.ensures last.index there.name)
+    (ap is_some (sym c.mark_place.ensures.value) ∙ sym c.is_some.ensures ∙ c.if-is_some.true)
 
 pub returns-in_err-name-clause-none : goal.returns-in_err-name-clause-none
 returns-in_err-name-clause-none c none = let n = c.args.number.0 in let ls = c.args.self.now.tree.lines in
