@@ -10,15 +10,16 @@ ghost use Rattle.documents.specs.Documents.{widget_at};
 
 use command_effects::Fault;
 use documents::Document;
+use smallvec::SmallVec;
 use text_model::TextStore;
 
-/// The places of indices, the first of which stands at a position.
+/// Returns the places of indices, the first of which is at a position. Two places are kept without an allocation.
 pub fn places_at<S: TextStore>(
     document: &mut Document<S>,
     seat: usize,
     position: usize,
     words: &[String],
-) -> Result<Vec<usize>, Fault>
+) -> Result<SmallVec<usize, 2>, Fault>
     requires shown { seat < length document.old.widgets }
     requires near { position + length words.now ≤ usize.MAX }
     ensures same { document.new ≡ document.old }
@@ -29,7 +30,7 @@ pub fn places_at<S: TextStore>(
     ensures within { IfOk result (λ places. All (λ place. place
         ≤ length (shown document.old (widget_at document.old seat))) places.items) }
 {
-    let mut places = Vec::with_capacity(document.allocator(), words.len())?;
+    let mut places = SmallVec::with_capacity(document.allocator(), words.len())?;
     for (index, word) in words.iter().enumerate() {
         let place = document.seek(seat, position + index, word.as_str())?;
         places.push(place)?;

@@ -36,7 +36,7 @@ loop-index-preserved g c =
     c.loop-index.invariant.same c.in_ok-place.ensures.within in
     record {
       same = c.seek.ensures.same ∙ c.loop-index.invariant.same;
-      found = rw c.in_ok-push.ensures.items
+      found = rw c.in_ok-push.ensures.ok
           (found-more document (widget_at document c.args.seat) c.args.position c.loop-index.index c.args.words.now
           c.index-words-index.result c.as_str.result.now c.loop-index.places.items
           c.loop-index-test.true c.index-words-index.is c.as_str.ensures.value c.loop-index.invariant.found
@@ -44,7 +44,7 @@ loop-index-preserved g c =
           (value-defined c.seek.result (place_at document (widget_at document c.args.seat)
           (c.args.position + c.loop-index.index) (chars c.as_str.result.now)) c.in_ok-place.place
           (gives g (goal.at.loop-index-preserved g c).After-seek) c.in_ok-place.was));
-      within = rw c.in_ok-push.ensures.items
+      within = rw c.in_ok-push.ensures.ok
           (All-append holds c.loop-index.places.items (c.in_ok-place.place ∷ []) c.loop-index.invariant.within
           (All-cons holds c.in_ok-place.place [] within (All-nil holds)));
     }
