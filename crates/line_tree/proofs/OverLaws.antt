@@ -13,7 +13,7 @@ use Rattle.line_tree.proofs.ListedLaws.{Comes, comes-contents, comes-others, fit
 use Rattle.line_lists.specs.Lists.{Holds}
 use Rattle.line_tree.proofs.PlaceLaws.{named_line}
 use Rattle.line_tree.proofs.TakeLaws.{changed-is}
-use Rattle.line_lists.proofs.LineStarts.{placed-most}
+use Rattle.line_lists.proofs.LineStarts.{placed-most, start-behind}
 use Rattle.line_tree.proofs.WalkLaws.{Passes, forgets, forgets-within, notes}
 
 pub fits-one : (ls : List Named) (line : LineContent) → IsCounted (plus (count_of (contents ls)) (count_of (line ∷ [])))
@@ -110,6 +110,24 @@ last-holds ls last offset there above below =
           (omega (arith, end, above, below));
       within = slice_get_within (contents ls) last.index line is;
     }
+
+-- where the line that is remembered ends
+pub last-within : (ls : List Named) (last : LastLine) → IsThere ls last → last.index < length (contents ls)
+last-within ls last there =
+    let named = named_line ls last.index last.name there.name in
+    slice_get_within (contents ls) last.index named.0.1 (listed ls last.index named.0.0 named.0.1 named.1)
+
+pub last-ends : (ls : List Named) (last : LastLine) → IsThere ls last →
+    last.end ≡ length (whole (take (last.index + 1) (contents ls))).columns
+last-ends ls last there =
+    let named = named_line ls last.index last.name there.name in
+    let line = named.0.1 in
+    let is = listed ls last.index named.0.0 line named.1 in
+    let next : suc last.index ≡ last.index + 1 = omega arith in
+    there.end line is
+    ∙ start-behind (contents ls) last.index last.start (length line.columns) line (last-within ls last there) there.start
+    is refl
+    ∙ ap (λ k. length (whole (take k (contents ls))).columns) next
 
 -- a line that is found with where it begins
 pub placed-there : (ls : List Named) (k start len : ℕ) (name : NodePtr) (line : LineContent) →

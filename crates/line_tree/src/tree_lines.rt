@@ -161,7 +161,10 @@ impl LineList for TreeLines {
     }
 
     fn start(&self, line: usize) -> usize {
-        self.tree.start(line, &mut Steps::new())
+        match self.last {
+            Some(last) if last.index + 1 == line => last.end,
+            _ => self.tree.start(line, &mut Steps::new()),
+        }
     }
 
     fn odd_slots(&self, line: usize) -> TagSet {
