@@ -41,7 +41,7 @@ CRATE = re.compile(r"\?\?\?:(\w+)::")
 # What our instructions are spent on: crates, by the function that they were compiled into, and the C library's calls.
 PARTS = {
     "words": ("tcl_words", "tktext", "script_cli"),
-    "commands": ("peers", "documents", "command_table", "name_list", "indexmap"),
+    "commands": ("peers", "documents", "command_table", "name_list", "indexmap", "smallvec"),
     "places": ("text_index", "index_grammar", "mark_table", "tag_table", "search_dump"),
     "edits": ("edit_ops", "command_effects", "undo_stack", "text_cursor"),
     "lines": ("line_lists", "segments"),
