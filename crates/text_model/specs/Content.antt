@@ -1,5 +1,5 @@
 -- What a text store keeps: cells, each a character with a set of tag slots, and marks by their numbers.
-use Rattle.std.specs.Prelude.{ℕ, zero, suc, Bool, List, [], ◌∷◌, get_or, map}
+use Rattle.std.specs.Prelude.{ℕ, zero, suc, ◌-◌, ◌==◌, Bool, List, [], ◌∷◌, get_or, map, if◌then◌else◌}
 use Rattle.std.specs.FinSet as set
 use Rattle.std.specs.FinMap as finite
 use Rattle.std.specs.Ordering.{nat_cmp}
@@ -27,6 +27,16 @@ slot_sets cells = map (λ (cell : Cell). cell.tags) cells
 abbrev pub slots_left_of : ℕ → List Cell → Slots
 slots_left_of zero cells = set.empty
 slots_left_of (suc n) cells = get_or (slot_sets cells) n set.empty
+
+-- the slots that the cell before a place and the cell at another one share; none at the start
+abbrev pub slots_around : ℕ → ℕ → List Cell → Slots
+slots_around from to cells =
+    if from == 0 then set.empty else set.intersection (get_or (slot_sets cells) (from - 1) set.empty)
+    (get_or (slot_sets cells) to set.empty)
+
+-- the slots that the cells on both sides of a place have; none at the start
+abbrev pub shared_slots : ℕ → List Cell → Slots
+shared_slots at cells = slots_around at at cells
 
 -- whether each cell has a slot
 abbrev pub flags : ℕ → List Cell → List Bool

@@ -1,15 +1,17 @@
 //! The trait of what stores a text with tags and marks: queries, and edits that are prepared and then committed.
 
 ghost use Rattle.std.specs.Prelude.{◌≡◌, ◌+◌, ◌-◌, ◌<◌, ◌≤◌, length, slice_range, slice_get, Some, IfOk, IfSome, chars};
-ghost use Rattle.std.specs.Prelude.{drop, string_bytes, take};
+ghost use Rattle.std.specs.Prelude.{◌∷◌, [], OnErr, drop, false, string_bytes, take, true};
 ghost use Rattle.std.specs.FinMap as finite;
 ghost use Rattle.std.specs.List.{prefix_len, suffix_len};
 ghost use Rattle.text_model.specs.Changes.{next_change, previous_change};
-ghost use Rattle.text_model.specs.Content.{Content, characters, flags, new_content, slot_sets, slots_left_of};
+ghost use Rattle.text_model.specs.Content.{Content, characters, flags, new_content, shared_slots, slot_sets};
+ghost use Rattle.text_model.specs.Content.{slots_left_of};
 ghost use Rattle.text_model.specs.Lines.{IsLineOf, lines, line_of, line_start};
 ghost use Rattle.text_model.specs.MarkOrder.{marks_at, next_mark, previous_mark};
 ghost use Rattle.text_model.specs.Steps.{Fits, after};
 ghost use Rattle.text_model.specs.TagBits.{slot_count};
+ghost use Rattle.text_model.specs.declared.edits.Step.TheVariants.{Insert, PutMark, Remove, SetTag};
 
 use crate::character_test::CharacterTest;
 use crate::edits::Edit;
@@ -21,7 +23,8 @@ use std::alloc::{AllocError, Global};
 ///
 /// Offsets count characters from the start of the text, and lines count from 0; each line ends with its newline. An
 /// edit is prepared, which takes all the memory that it wants and changes nothing that can be seen, and then
-/// committed, which can't fail. No query takes memory.
+/// committed, which can't fail. An edit of one line may also be made at once (`put_within` and the calls after it). No
+/// query takes memory.
 pub trait TextStore: Drop {
     /// An edit for which all memory is there.
     type Prepared: Drop;
@@ -156,6 +159,63 @@ pub trait TextStore: Drop {
     fn seek_line(&mut self, _line: usize)
         ensures { content self.new ≡ content self.old }
     {}
+
+    /// Inserts a text before the character at an offset, with the tags that the characters on both sides share (none at
+    /// the start), if that changes one line alone and the store can make it in that line where it lies. Returns whether
+    /// it was made. Otherwise, and where memory is refused, the text and its marks are as they were.
+    fn put_within(&mut self, _at: usize, _text: &str) -> Result<bool, AllocError>
+        requires { _at < length (content self.old).cells }
+        ensures made { IfOk result (λ is_made. is_made ≡ true → let cells = (content self.old).cells in
+            content self.new ≡ after (Insert _at (chars _text.now) (shared_slots _at cells) ∷ []) (content self.old)) }
+        ensures other { IfOk result (λ is_made. is_made ≡ false → content self.new ≡ content self.old) }
+        ensures refused { OnErr result (content self.new ≡ content self.old) }
+    {
+        Ok(false)
+    }
+
+    /// Removes the characters from one offset to another, where that can be made in one line as `put_within` does it.
+    fn take_within(&mut self, _from: usize, _to: usize) -> Result<bool, AllocError>
+        requires ordered { _from ≤ _to }
+        requires within { _to < length (content self.old).cells }
+        ensures made { IfOk result (λ is_made. is_made ≡ true →
+            content self.new ≡ after (Remove _from _to ∷ []) (content self.old)) }
+        ensures other { IfOk result (λ is_made. is_made ≡ false → content self.new ≡ content self.old) }
+        ensures refused { OnErr result (content self.new ≡ content self.old) }
+    {
+        Ok(false)
+    }
+
+    /// Adds a tag to the characters from one offset to another, or removes it from them, where that can be made in one
+    /// line as `put_within` does it.
+    fn tag_within(
+        &mut self,
+        _from: usize,
+        _to: usize,
+        _slot: TagSlot,
+        _is_on: bool,
+    ) -> Result<bool, AllocError>
+        requires ordered { _from ≤ _to }
+        requires within { _to ≤ length (content self.old).cells }
+        requires known { _slot.0 < slot_count }
+        ensures made { IfOk result (λ is_made. is_made ≡ true →
+            content self.new ≡ after (SetTag _from _to _slot _is_on ∷ []) (content self.old)) }
+        ensures other { IfOk result (λ is_made. is_made ≡ false → content self.new ≡ content self.old) }
+        ensures refused { OnErr result (content self.new ≡ content self.old) }
+    {
+        Ok(false)
+    }
+
+    /// Puts the mark of a number at a place, wherever it stood, where that can be made in one line as `put_within` does
+    /// it.
+    fn mark_within(&mut self, _number: MarkNo, _place: Place) -> Result<bool, AllocError>
+        requires { _place.offset ≤ length (content self.old).cells }
+        ensures made { IfOk result (λ is_made. is_made ≡ true →
+            content self.new ≡ after (PutMark _number _place ∷ []) (content self.old)) }
+        ensures other { IfOk result (λ is_made. is_made ≡ false → content self.new ≡ content self.old) }
+        ensures refused { OnErr result (content self.new ≡ content self.old) }
+    {
+        Ok(false)
+    }
 
     /// Takes the memory for an edit. The text and its marks stay as they are, also where memory is refused.
     fn prepare(&mut self, edit: &Edit) -> Result<Self::Prepared, AllocError>
