@@ -1,4 +1,4 @@
--- Places that stand as they are in a list: two numbers round a dot.
+-- Numbers and places that stand as they are in a list; a place is two numbers round a dot.
 use Rattle.tcl_words.proofs.Common.{◌≡◌, ℕ, ◌<◌, ◌≤◌, ◌==◌, suc, Bool, true, false, List, [], ◌∷◌, ◌++◌, length, refl}
 use Rattle.tcl_words.proofs.Common.{sym, ap, ◌∙◌, arith, append-nil, ne_eqb, zero, ◌||◌, ◌^◌, ap₂, decimal}
 use Rattle.tcl_words.proofs.Common.{if◌then◌else◌, IsAscii, encode_utf8_all, IsAscii-append, encodes-IsAscii, Goes}
@@ -45,6 +45,18 @@ plain-number (c ∷ ds) rest some all plain =
     let parts = tells_digits.parts c ds all in
     ap (λ b. if b then true else has_special (c ∷ (ds ++ rest)))
     (ne_eqb c 35 (λ is. absurd (omega (arith, parts.0.0, is)))) ∙ plain-digits (c ∷ ds) rest all ∙ plain
+
+-- a number
+pub plain-decimal : (number : ℕ) → number < 10 ^ 64 → needs_quotes (decimal number) ≡ false
+plain-decimal number small =
+    let digits = (decimal_is_IsNumeral_wide number small).0 in
+    ap needs_quotes (sym (append-nil (decimal number))) ∙ plain-number (decimal number) [] digits.0 digits.1 refl
+
+-- a number behind a hyphen
+pub plain-negative : (number : ℕ) → number < 10 ^ 64 → needs_quotes (45 ∷ decimal number) ≡ false
+plain-negative number small =
+    let digits = (decimal_is_IsNumeral_wide number small).0 in
+    ap has_special (sym (append-nil (decimal number))) ∙ plain-digits (decimal number) [] digits.1
 
 plain-dot : (ds : List ℕ) → has_special (46 ∷ ds) ≡ has_special ds
 plain-dot ds = refl

@@ -49,6 +49,15 @@ module _ {part : Part} (view : IsView part) where
       let same = ap (λ k. line_start k text) total in
       omega (arith, all, same, view.behind.begins, later-start visible (lines visible) line past, line_start-le visible line, long)
 
+  -- the first character of the first line is the first place, also where there is no line
+  pub first-value : 0 ≡ line_value 1 (Some 0) visible
+  first-value =
+      elim (nat_lt 0 (lines visible)) as (λ b. nat_lt 0 (lines visible) ≡ b →
+      0 ≡ (if b then in_line 0 0 visible else length visible)) [
+        | true ↦ λ _. omega arith
+        | false ↦ λ none. let few : lines visible ≤ 0 = grind (arith, nat_tests) in omega (arith, long, past-start 0 few)
+      ] refl
+
   start-shown : (line : ℕ) → line_start line visible ≡ min (line_start (line_of text start + line) text) end - start
   start-shown line =
       elim (cases_lt line (lines visible)) [

@@ -68,6 +68,7 @@ fn seek_base<S: TextStore>(store: &mut S, base: Base)
     ensures { S.content store.new ≡ S.content store.old }
 {
     match base {
+        Base::At(1, 0) => {}
         Base::At(line, _) | Base::LineEnd(line) => store.seek_line(line.saturating_sub(1)),
         _ => {}
     }

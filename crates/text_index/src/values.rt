@@ -69,6 +69,8 @@ fn on_line<S: TextStore>(view: &View<'_, S>, line: usize, character: Option<usiz
     }
     match character {
         None => newline_on(view, line - 1),
+        // The first place of a view is known without its line.
+        Some(0) if line == 1 => 0,
         Some(character) => character_on(view, line - 1, character),
     }
 }
