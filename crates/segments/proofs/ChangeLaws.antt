@@ -4,7 +4,7 @@ use Rattle.segments.proofs.Common.{◌==◌, ◌||◌, List, [], ◌∷◌, ◌+
 use Rattle.segments.proofs.Common.{ap₂, subst, ◌∙◌, arith, cond, if◌then◌else◌, cases_eq, nat_tests, nat_cmp_total}
 use Rattle.segments.proofs.Common.{unsigned_tied, nat_cmp, set_slot, contains-differing, either, same_slots, Slots}
 use Rattle.segments.proofs.Common.{differing, changed, Toggled, Column, flipped, slots_cleared, toggled_at}
-use Rattle.segments.proofs.Common.{columns_from}
+use Rattle.segments.proofs.Common.{columns_from, flipped_if, toggled_if}
 use Rattle.text_model.proofs.CellLaws.{contains-set_slot}
 use Rattle.std.specs.FinSet as finset
 
@@ -78,6 +78,16 @@ columns_flipped column slots text new old within is =
     (λ k other.
     let test : (k == column) ≡ false = grind (arith, nat_tests) in
     is k ∙ ap (λ (b : Bool). if b then differing slots (toggled_at old k) else toggled_at old k) test)
+
+-- a slot that is toggled there, if it is to be
+pub columns_flipped_if : (is_flipped : Bool) (column slot : ℕ) (text : List ℕ) (new old : List Toggled) →
+    column < length text
+    → ((at : ℕ) → toggled_at new at
+    ≡ flipped_if is_flipped column (finset.insert finset.empty slot) at (toggled_at old at))
+    → columns_from 0 text new ≡ toggled_if is_flipped slot column (columns_from 0 text old)
+columns_flipped_if true column slot text new old within is =
+    columns_flipped column (finset.insert finset.empty slot) text new old within is
+columns_flipped_if false column slot text new old within is = columns_same 0 0 text new old (λ k small. is (0 + k))
 
 -- a slot that is to be as it is, and one that isn't
 same_test : (q slot : ℕ) (on : Bool) (slots : Slots) → finset.contains slots slot ≡ on →

@@ -6,9 +6,11 @@ pub use Rattle.std.proofs.Common.{length-drop, length-take, ltb, ltb-false, ltb-
 pub use Rattle.std.proofs.Common.{nat_lt, not, refl, rules, set, subst, suc, sym, take, take-append-drop, true, zero}
 pub use Rattle.segments.specs.Columns.{Column, LineContent, after_removal, after_text, characters, earlier, free_behind}
 pub use Rattle.segments.specs.Columns.{joined, joined_marks, later, line_before, line_behind, line_count, marks_where}
-pub use Rattle.segments.specs.Columns.{next_toggle, plain_columns, plain_line, previous_toggle, tags_before}
-pub use Rattle.segments.specs.Columns.{toggled_first, toggled_more, toggles, with_toggle, without_columns}
+pub use Rattle.segments.specs.Columns.{next_toggle, plain_columns, plain_line, previous_toggle, reset, tags_before}
+pub use Rattle.segments.specs.Columns.{toggled_first, toggled_if, toggled_more, toggles, with_toggle}
+pub use Rattle.segments.specs.Columns.{without_columns}
 pub use Rattle.segments.specs.Entries.{CanMoveBack, CanMoveOn, HasOneWord, LieIn, RiseIn, any_of, entries_in, flipped}
+pub use Rattle.segments.specs.Entries.{flipped_if}
 pub use Rattle.segments.specs.Entries.{later_of, moved_back, moved_on, next_entry, odd_of, place_of, previous_entry}
 pub use Rattle.segments.specs.Entries.{slots_cleared, toggled_at, without_span}
 pub use Rattle.segments.specs.Forms.{content, is_plain}

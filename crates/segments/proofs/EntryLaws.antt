@@ -214,6 +214,27 @@ pub RiseIn-low : (low from to : ℕ) (entries : List Toggled) → RiseIn low to 
 RiseIn-low low from to [] rise near = tt
 RiseIn-low low from to (entry ∷ entries) rise near = (omega (arith, rise.0), rise.1, rise.2, rise.3)
 
+-- a higher bound, and a lower one where no entry has the first column
+pub RiseIn-high : (from to high : ℕ) (entries : List Toggled) → RiseIn from to entries → to ≤ high →
+    RiseIn from high entries
+RiseIn-high from to high [] rise near = tt
+RiseIn-high from to high (entry ∷ entries) rise near = (
+  rise.0,
+  omega (arith, rise.1),
+  rise.2,
+  RiseIn-high (suc (place_of entry)) to high entries rise.3 near,
+)
+
+pub LieIn-next : (column to n : ℕ) (entries : List Toggled) (d : Toggled) → LieIn column to (drop n entries) →
+    (n < length entries → (get_or entries n d).column ≢ column) → LieIn (column + 1) to (drop n entries)
+LieIn-next column to zero [] d lie other = tt
+LieIn-next column to (suc n) [] d lie other = tt
+LieIn-next column to zero (entry ∷ entries) d lie other =
+    let apart = other (omega arith) in
+    (omega (arith, lie.0, lie.2.within, apart), lie.1, lie.2, lie.3)
+LieIn-next column to (suc n) (entry ∷ entries) d lie other =
+    LieIn-next column to n entries d lie (λ within. other (omega (arith, within)))
+
 pub all_words : (from to : ℕ) (entries : List Toggled) → RiseIn from to entries → All HasOneWord entries
 all_words from to [] rise = All-nil HasOneWord
 all_words from to (entry ∷ entries) rise =

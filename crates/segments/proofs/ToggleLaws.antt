@@ -306,7 +306,7 @@ second_holds : (a b : Bool) → (a && b) ≡ true → b ≡ true
 second_holds true b is = is
 second_holds false b is = absurd (false≢true is)
 
-cleared_none : (slot from to at : ℕ) → slots_cleared slot from to at finset.empty ≡ finset.empty
+pub cleared_none : (slot from to at : ℕ) → slots_cleared slot from to at finset.empty ≡ finset.empty
 cleared_none slot from to at = none_left (nat_le from at && nat_lt at to) slot
 
 -- what is left of an entry that stays is of its word

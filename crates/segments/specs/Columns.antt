@@ -1,14 +1,14 @@
 -- A line of text as contracts see it: its columns, each a character with the slots that are toggled before it, and its
 -- marks by their numbers, whose places are columns.
-use Rattle.std.specs.Prelude.{ℕ, ◌+◌, ◌-◌, Bool, not, nat_lt, nat_le, Option, None, Some, List, [], ◌∷◌, ◌++◌, map}
-use Rattle.std.specs.Prelude.{length, take, drop, slice_range, option_map, if◌then◌else◌}
+use Rattle.std.specs.Prelude.{ℕ, ◌+◌, ◌-◌, Bool, false, not, nat_lt, nat_le, Option, None, Some, List, [], ◌∷◌, ◌++◌}
+use Rattle.std.specs.Prelude.{map, length, take, drop, slice_range, option_map, if◌then◌else◌}
 use Rattle.std.specs.List.{filter, position, suffix_len}
 use Rattle.std.specs.FinMap as finite
 use Rattle.std.specs.FinSet as set
 use Rattle.text_model.specs.declared.places.Place.{Place}
 use Rattle.text_model.specs.Content.{Marks, Slots, map_marks}
 use Rattle.text_model.specs.SlotSets.{differing}
-use Rattle.text_model.specs.Splices.{inserted, moved, drawn}
+use Rattle.text_model.specs.Splices.{changed, inserted, moved, drawn}
 use Rattle.text_model.specs.Steps.{set_slot}
 use Rattle.toggle_sums.specs.Counts.{Count}
 use Rattle.toggle_sums.specs.Toggles.{parity, presence}
@@ -53,6 +53,16 @@ without_columns from to columns =
 -- a slot is toggled before a column, or it isn't
 abbrev pub with_toggle : ℕ → Bool → Column → Column
 with_toggle slot on column = record column { toggled = set_slot slot on column.toggled }
+
+-- a slot is toggled before a column, if it is to be
+abbrev pub toggled_if : Bool → ℕ → ℕ → List Column → List Column
+toggled_if is_toggled slot at columns =
+    if is_toggled then changed (toggled_more (set.insert set.empty slot)) at (at + 1) columns else columns
+
+-- no toggle of a slot is left from one column to another, and before each of the two it is toggled, if it is to be
+abbrev pub reset : ℕ → ℕ → ℕ → Bool → Bool → List Column → List Column
+reset slot from to first last columns =
+    toggled_if last slot to (toggled_if first slot from (changed (with_toggle slot false) from to columns))
 
 -- the slots that are toggled an odd number of times before the character at a column
 abbrev pub tags_before : ℕ → List Column → Slots

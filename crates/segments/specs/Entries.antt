@@ -1,6 +1,6 @@
 -- The toggles of a line by their columns and words, which rise.
-use Rattle.std.specs.Prelude.{ℕ, suc, ◌+◌, ◌-◌, ◌*◌, ◌<◌, ◌≤◌, ◌^◌, ◌==◌, ◌&&◌, nat_lt, nat_le, Option, None, Some}
-use Rattle.std.specs.Prelude.{List, [], ◌∷◌, ⊤, if◌then◌else◌}
+use Rattle.std.specs.Prelude.{ℕ, suc, ◌+◌, ◌-◌, ◌*◌, ◌<◌, ◌≤◌, ◌^◌, ◌==◌, ◌&&◌, nat_lt, nat_le, Bool, Option, None}
+use Rattle.std.specs.Prelude.{Some, List, [], ◌∷◌, ⊤, if◌then◌else◌}
 use Rattle.std.specs.List.{filter}
 use Rattle.std.specs.FinSet as set
 use Rattle.text_model.specs.Content.{Slots}
@@ -57,6 +57,10 @@ moved_back count entry = record entry { column = entry.column - count }
 -- what is toggled at a column, once a set is toggled at one of them
 abbrev pub flipped : ℕ → Slots → ℕ → Slots → Slots
 flipped column slots at old = if at == column then differing slots old else old
+
+-- the same, if it is to be toggled
+abbrev pub flipped_if : Bool → ℕ → Slots → ℕ → Slots → Slots
+flipped_if is_flipped column slots at old = if is_flipped then flipped column slots at old else old
 
 -- the toggles of the columns from one to another
 abbrev pub entries_in : ℕ → ℕ → List Toggled → List Toggled

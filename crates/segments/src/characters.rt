@@ -42,6 +42,18 @@ fn has_more_room(text: &String) -> bool
 /// So many bytes of room beyond twice a text's length aren't given back.
 const SPARE: usize = 64;
 
+/// Makes room in a text for so many bytes more. If it has to grow, it gets a few more than these, or a sixteenth of its
+/// length, so that the next insertions don't allocate, and a long text isn't copied for each of them.
+fn make_room(text: &mut String, bytes: usize) -> Result<(), AllocError>
+    ensures { string_bytes text.new ≡ string_bytes text.old }
+{
+    if text.capacity() - text.len() < bytes {
+        let more = MORE.max(text.len() / 16);
+        text.reserve_exact(bytes.saturating_add(more))?;
+    }
+    Ok(())
+}
+
 /// Takes what stands from a byte on off a text, and hands it out. Of the two parts the shorter one is copied, so that
 /// the longer one keeps no more room than it has use for.
 fn split_text(text: &mut String, byte: usize) -> Result<String, AllocError>
@@ -233,6 +245,7 @@ impl Characters {
         ensures refused { OnErr result (self.new ≡ self.old) }
     {
         let byte = byte_of(self.text.as_str(), self.count, column);
+        make_room(&mut self.text, text.len())?;
         self.text.insert_str(byte, text)?;
         self.count += count_characters(text);
         Ok(())

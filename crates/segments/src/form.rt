@@ -6,7 +6,7 @@ ghost use Rattle.std.specs.FinSet as set;
 ghost use Rattle.text_model.specs.Splices.{changed};
 ghost use Rattle.text_model.specs.TagBits.{slot_count};
 ghost use Rattle.segments.specs.Columns.{after_removal, after_text, joined, line_before, line_behind, toggled_more};
-ghost use Rattle.segments.specs.Columns.{with_toggle};
+ghost use Rattle.segments.specs.Columns.{reset, with_toggle};
 ghost use Rattle.segments.specs.Forms.{content, is_plain};
 
 use crate::characters::Characters;
@@ -22,7 +22,7 @@ pub enum Form {
 }
 
 impl Form {
-    pub fn is_plain(&self) -> bool
+    fn is_plain(&self) -> bool
         ensures { result ≡ is_plain self.now }
     {
         matches!(self, Form::Plain(_))
@@ -207,6 +207,32 @@ impl Form {
         match self {
             Form::Plain(_) => Ok(()),
             Form::Rich(line) => line.toggle(column, slots),
+        }
+    }
+
+    /// Removes the toggles of a slot before the characters from one column to another, and toggles it before each of
+    /// the characters at these two columns if that is asked for. Without room there is no toggle.
+    pub fn reset_toggles(
+        &mut self,
+        slot: TagSlot,
+        from: usize,
+        to: usize,
+        first: bool,
+        last: bool,
+    ) -> Result<(), AllocError>
+        requires slot { slot.0 < slot_count }
+        requires ordered { from ≤ to }
+        requires within { to < length (content self.old).columns }
+        requires first { is_plain self.old ≡ true → first ≡ false }
+        requires last { is_plain self.old ≡ true → last ≡ false }
+        ensures columns { OnOk result ((content self.new).columns
+            ≡ reset slot.0 from to first last (content self.old).columns) }
+        ensures marks { (content self.new).marks ≡ (content self.old).marks }
+        ensures refused { OnErr result (content self.new ≡ content self.old) }
+    {
+        match self {
+            Form::Plain(_) => Ok(()),
+            Form::Rich(line) => line.reset_toggles(slot, from, to, first, last),
         }
     }
 

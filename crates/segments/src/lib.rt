@@ -4,8 +4,10 @@
 mod characters;
 mod form;
 mod line;
+mod line_edits;
 mod marks;
 mod rich;
 mod toggles;
 
 pub use line::Line;
+pub use line_edits::{InsertText, LineEdit, RemoveRange, ResetToggles};

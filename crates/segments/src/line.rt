@@ -12,7 +12,7 @@ ghost use Rattle.text_model.specs.SlotSets.{differing};
 ghost use Rattle.text_model.specs.Splices.{changed};
 ghost use Rattle.text_model.specs.TagBits.{slot_count};
 ghost use Rattle.segments.specs.Columns.{after_removal, after_text, characters, joined, line_before, line_behind};
-ghost use Rattle.segments.specs.Columns.{line_count, next_toggle, plain_line, previous_toggle, tags_before};
+ghost use Rattle.segments.specs.Columns.{line_count, next_toggle, plain_line, previous_toggle, reset, tags_before};
 ghost use Rattle.segments.specs.Columns.{toggled_more, toggles, with_toggle};
 ghost use Rattle.toggle_sums.specs.Counts.{CountsFit, plus};
 ghost use Rattle.toggle_sums.specs.Toggles.{parity};
@@ -189,6 +189,19 @@ impl Line {
         match &self.form {
             Form::Plain(_) => false,
             Form::Rich(line) => line.is_odd(slot),
+        }
+    }
+
+    /// Returns whether a slot is toggled before the character at a column. No clause says when it is: an entry for no
+    /// slot would count too.
+    pub fn is_toggled(&self, column: usize) -> bool
+        requires { column < length self.now.columns }
+        ensures { result ≡ false →
+            tags_before column self.now.columns ≡ parity (toggles (take column self.now.columns)) }
+    {
+        match &self.form {
+            Form::Plain(_) => false,
+            Form::Rich(line) => line.is_toggled(column),
         }
     }
 
@@ -458,6 +471,31 @@ impl Line {
             Form::Plain(_) => unreachable!(),
             Form::Rich(line) => line.toggle_slot(column, slot),
         }
+    }
+
+    /// Removes the toggles of a slot before the characters from one column to another, and toggles it before each of
+    /// the characters at these two columns if that is asked for.
+    pub fn reset_toggles(
+        &mut self,
+        slot: TagSlot,
+        from: usize,
+        to: usize,
+        first: bool,
+        last: bool,
+    ) -> Result<(), AllocError>
+        requires slot { slot.0 < slot_count }
+        requires ordered { from ≤ to }
+        requires within { to < length self.old.columns }
+        ensures columns { OnOk result (self.new.columns ≡ reset slot.0 from to first last self.old.columns) }
+        ensures marks { self.new.marks ≡ self.old.marks }
+        ensures refused { OnErr result (self.new ≡ self.old) }
+    {
+        if first || last {
+            self.form.enrich(self.alloc)?;
+        }
+        self.form.reset_toggles(slot, from, to, first, last)?;
+        self.form.settle(self.alloc);
+        Ok(())
     }
 
     /// Takes the toggles of a slot before the characters from one column to another away, which takes no memory.

@@ -12,7 +12,7 @@ ghost use Rattle.text_model.specs.SlotSets.{differing};
 ghost use Rattle.text_model.specs.Splices.{changed};
 ghost use Rattle.text_model.specs.TagBits.{slot_count};
 ghost use Rattle.segments.specs.Columns.{after_removal, after_text, characters, joined, line_before, line_behind};
-ghost use Rattle.segments.specs.Columns.{line_count, next_toggle, plain_line, previous_toggle, tags_before};
+ghost use Rattle.segments.specs.Columns.{line_count, next_toggle, plain_line, previous_toggle, reset, tags_before};
 ghost use Rattle.segments.specs.Columns.{toggled_more, toggles, with_toggle};
 ghost use Rattle.toggle_sums.specs.Counts.{CountsFit, plus, with_toggles_of};
 ghost use Rattle.toggle_sums.specs.Toggles.{parity};
@@ -23,8 +23,8 @@ use crate::marks::{
     next_mark, previous_mark, put_mark, take_mark,
 };
 use crate::toggles::{
-    Toggled, clear, count_before, flip, flip_slot, has_toggle, is_odd, move_rest_back,
-    move_rest_on, next_toggle, odd_slots, previous_toggle, remove_columns, turn_odd,
+    Toggled, clear, count_before, flip, flip_if, flip_slot, has_toggle, is_odd, move_rest_back,
+    move_rest_on, next_toggle, odd_slots, previous_toggle, remove_columns, reserve_ends, turn_odd,
 };
 use std::alloc::{AllocError, AllocFailed, Global};
 use std::marker::Model;
@@ -212,6 +212,19 @@ impl RichLine {
     {
         let count = count_before(&self.toggles, column);
         is_odd(&self.toggles[..count], slot)
+    }
+
+    /// Returns whether a slot is toggled before the character at a column.
+    pub fn is_toggled(&self, column: usize) -> bool
+        requires { column < length self.now.columns }
+        ensures { result ≡ false →
+            tags_before column self.now.columns ≡ parity (toggles (take column self.now.columns)) }
+    {
+        let index = count_before(&self.toggles, column);
+        match self.toggles.get(index) {
+            Some(entry) => entry.column == column,
+            None => false,
+        }
     }
 
     /// The first column from one on before which a slot is toggled.
@@ -502,6 +515,30 @@ impl RichLine {
         ensures refused { OnErr result (self.new ≡ self.old) }
     {
         flip_slot(&mut self.toggles, column, slot)
+    }
+
+    /// Removes the toggles of a slot before the characters from one column to another, and toggles it before each of
+    /// the characters at these two columns if that is asked for.
+    pub fn reset_toggles(
+        &mut self,
+        slot: TagSlot,
+        from: usize,
+        to: usize,
+        first: bool,
+        last: bool,
+    ) -> Result<(), AllocError>
+        requires slot { slot.0 < slot_count }
+        requires ordered { from ≤ to }
+        requires within { to < length self.old.columns }
+        ensures columns { OnOk result (self.new.columns ≡ reset slot.0 from to first last self.old.columns) }
+        ensures marks { self.new.marks ≡ self.old.marks }
+        ensures refused { OnErr result (self.new ≡ self.old) }
+    {
+        reserve_ends(&mut self.toggles, first || last)?;
+        clear(&mut self.toggles, slot, from, to);
+        flip_if(&mut self.toggles, from, slot, first);
+        flip_if(&mut self.toggles, to, slot, last);
+        Ok(())
     }
 
     /// Takes the toggles of a slot before the characters from one column to another away, which takes no memory.

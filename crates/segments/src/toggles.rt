@@ -11,7 +11,7 @@ ghost use Rattle.text_model.specs.Splices.{removed};
 ghost use Rattle.text_model.specs.TagBits.{slot_count};
 ghost use Rattle.segments.specs.Entries.{CanMoveBack, CanMoveOn, HasOneWord, LieIn, RiseIn, flipped, moved_back};
 ghost use Rattle.segments.specs.Entries.{moved_on, next_entry, odd_of, place_of, previous_entry, slots_cleared};
-ghost use Rattle.segments.specs.Entries.{toggled_at, without_span};
+ghost use Rattle.segments.specs.Entries.{flipped_if, toggled_at, without_span};
 
 use std::alloc::AllocError;
 use text_model::{SlotWord, TagSet, TagSlot, WORDS};
@@ -32,6 +32,14 @@ pub fn count_before(toggles: &[Toggled], column: usize) -> usize
         LieIn column to (drop result toggles.now) }
 {
     count_before_word(toggles, column, 0)
+}
+
+/// Returns whether a slot is toggled at a column from one to another.
+fn is_toggled(toggles: &[Toggled], from: usize, to: usize) -> bool
+    ensures { result ≡ false → (low high at : ℕ) → LieIn low high toggles.now → from ≤ at → at < to →
+        toggled_at toggles.now at ≡ set.empty }
+{
+    count_before(toggles, from) < count_before(toggles, to)
 }
 
 /// Turns in a set the slots that are toggled an odd number of times.
@@ -157,6 +165,7 @@ fn put_entry(toggles: &mut Vec<Toggled>, index: usize, entry: Toggled)
 }
 
 /// Toggles slots of one word at a column, where there is room for one entry more.
+#[inline]
 fn flip_word(toggles: &mut Vec<Toggled>, column: usize, slots: &SlotWord)
     requires room { vec_len toggles.old < vec_capacity toggles.old }
     ensures lie { (from to : ℕ) → LieIn from to toggles.old.items → from ≤ column → column < to →
@@ -188,6 +197,33 @@ fn flip_word(toggles: &mut Vec<Toggled>, column: usize, slots: &SlotWord)
             slots: *slots,
         },
     );
+}
+
+/// Reserves room for an entry at each end of a range, if it is needed.
+pub fn reserve_ends(toggles: &mut Vec<Toggled>, is_needed: bool) -> Result<(), AllocError>
+    ensures same { toggles.new.items ≡ toggles.old.items }
+    ensures room { OnOk result (is_needed ≡ true → vec_len toggles.new + 2 ≤ vec_capacity toggles.new) }
+{
+    if is_needed {
+        toggles.reserve(2)?;
+    }
+    Ok(())
+}
+
+/// Toggles a slot at a column, if it is to be, where there is room for one entry more.
+pub fn flip_if(toggles: &mut Vec<Toggled>, column: usize, slot: TagSlot, is_flipped: bool)
+    requires slot { slot.0 < slot_count }
+    requires room { is_flipped ≡ true → vec_len toggles.old < vec_capacity toggles.old }
+    ensures lie { (from to : ℕ) → LieIn from to toggles.old.items → from ≤ column → column < to →
+        LieIn from to toggles.new.items }
+    ensures slots { (at : ℕ) → toggled_at toggles.new.items at
+        ≡ flipped_if is_flipped column (set.insert set.empty slot.0) at (toggled_at toggles.old.items at) }
+    ensures len { vec_len toggles.new ≤ vec_len toggles.old + 1 }
+    ensures capacity { vec_capacity toggles.new ≡ vec_capacity toggles.old }
+{
+    if is_flipped {
+        flip_word(toggles, column, &SlotWord::of(slot));
+    }
 }
 
 /// Toggles each slot of a set at a column, where there is room for an entry for each of its words.
@@ -293,8 +329,12 @@ pub fn clear(toggles: &mut Vec<Toggled>, slot: TagSlot, from: usize, to: usize)
     ensures lie { (low high : ℕ) → LieIn low high toggles.old.items → LieIn low high toggles.new.items }
     ensures slots { (low high at : ℕ) → LieIn low high toggles.old.items →
         toggled_at toggles.new.items at ≡ slots_cleared slot.0 from to at (toggled_at toggles.old.items at) }
+    ensures len { vec_len toggles.new ≤ vec_len toggles.old }
+    ensures capacity { vec_capacity toggles.new ≡ vec_capacity toggles.old }
 {
-    toggles.retain_mut(|entry| clear_entry(entry, slot, from, to));
+    if is_toggled(toggles, from, to) {
+        toggles.retain_mut(|entry| clear_entry(entry, slot, from, to));
+    }
 }
 
 /// Whether a slot is toggled at a column.

@@ -1,6 +1,7 @@
 use Rattle.segments.proofs.Common.{◌≡◌, ◌≤◌, ap, ◌∙◌, arith, length, chars, string_bytes, IsUtf8-string_bytes, inserted}
 use Rattle.segments.proofs.Common.{length-inserted}
 use Rattle.segments.proofs.TextLaws.{fewer_characters, inserted_text}
+use Rattle.std.specs.List.{insert_slice}
 use Rattle.segments.proofs.characters.Characters.insert.Goals.{In_ok-insert_str}
 use Rattle.segments.proofs.characters.Characters.insert.Goals as goal
 
@@ -22,7 +23,8 @@ new : (c : In_ok-insert_str) → chars (string_bytes c.insert_str.new.self)
 new c =
     let byte = c.byte_of-byte.ensures in
     inserted_text c.args.text.now c.byte_of-byte.result c.args.column c.as_str.ensures.value c.as_str.utf8 c.utf8.text
-    byte.boundary byte.front byte.behind c.in_ok-insert_str.ensures.bytes
+    byte.boundary byte.front byte.behind (c.in_ok-insert_str.ensures.bytes
+    ∙ ap (λ bytes. insert_slice bytes c.byte_of-byte.result c.args.text.now) c.make_room.ensures)
 
 pub invariant_of-self-2 : goal.invariant_of-self-2
 invariant_of-self-2 c =
