@@ -5,7 +5,7 @@ pub use Rattle.std.proofs.Common.{Some, T, Vec, add-one, ap, append_assoc, arith
 pub use Rattle.std.proofs.Common.{get_or, inl, inr, length, length-append, length-drop, length-take, map, max, min}
 pub use Rattle.std.proofs.Common.{nat_lt, not, refl, replicate, rules, set, subst, suc, sym, take, take-append-drop}
 pub use Rattle.std.proofs.Common.{true, vec_len, w8, zero}
-pub use Rattle.line_lists.specs.Changes.{CanChange, IsChangedBy, lines_changed, lines_freed}
+pub use Rattle.line_lists.specs.Changes.{CanChange, CanEdit, IsChangedBy, lines_changed, lines_freed}
 pub use Rattle.line_lists.specs.Clearing.{AreFree, free_end, free_length, lines_on}
 pub use Rattle.line_lists.specs.DraftTexts.{IsDraftIn, IsTextIn, lines_in, taken_in, text_in}
 pub use Rattle.line_lists.specs.Drafts.{AreStops, BeginsBehind, BeginsBy, CanFollow, IsBefore, IsDraft, IsFound}
@@ -33,10 +33,11 @@ pub use Rattle.line_lists.specs.declared.pieces.Piece.{Piece}
 pub use Rattle.line_lists.specs.declared.store.PieceChange.{PieceChange}
 pub use Rattle.segments.proofs.MarkLaws.{get-joined_marks, joined_none, or_else, tied_same}
 pub use Rattle.segments.proofs.PlainLaws.{characters-plain}
+pub use Rattle.segments.proofs.TextLaws.{fewer_characters, no_characters}
 pub use Rattle.segments.specs.Columns.{Column, LineContent, after_removal, after_text, characters, earlier, joined}
 pub use Rattle.segments.specs.Columns.{joined_marks, later, line_before, line_behind, line_count, marks_where}
-pub use Rattle.segments.specs.Columns.{next_toggle, plain_columns, plain_line, previous_toggle, tags_before}
-pub use Rattle.segments.specs.Columns.{toggled_first, toggled_more, toggles, with_toggle, without_columns}
+pub use Rattle.segments.specs.Columns.{next_toggle, plain_columns, plain_line, previous_toggle, reset, tags_before}
+pub use Rattle.segments.specs.Columns.{toggled_first, toggled_if, toggled_more, toggles, with_toggle, without_columns}
 pub use Rattle.std.proofs.Math.Seq.{drop-append-add, drop-append_seam, take-append-add, take-append_seam, take-nil}
 pub use Rattle.std.proofs.Math.Seq.{take-suc}
 pub use Rattle.std.proofs.lemmas.Bool.{false≢true, cases_lt, eq-eqb, not-false, or_parts}
@@ -57,6 +58,7 @@ pub use Rattle.std.proofs.lemmas.Option.{get_or_from_slice_get, none-some, same_
 pub use Rattle.std.proofs.lemmas.Option.{slice_get_read, slice_get_within}
 pub use Rattle.std.proofs.lemmas.Result.{IfOk-equal, IfOk-weaker, on_ok_weaker}
 pub use Rattle.std.proofs.lemmas.Simd.{bitmask_splat, leading_from_mask_l, length-chunk, trailing_mask_l}
+pub use Rattle.std.specs.Bool.{beq}
 pub use Rattle.std.specs.Cmp.{nat_cmp_total, unsigned_tied}
 pub use Rattle.std.specs.FinMap.{find, is_sorted, nat_cmp-IsAntisymmetric}
 pub use Rattle.std.specs.FinMap.Entries.{below_all, same_entries}
@@ -80,7 +82,8 @@ pub use Rattle.text_model.proofs.SpliceLaws.{inserted-append_left, inserted-appe
 pub use Rattle.text_model.proofs.SpliceLaws.{length-inserted, map-changed, map-inserted, map-removed}
 pub use Rattle.text_model.proofs.StepLaws.{length-after_step, moved_le}
 pub use Rattle.text_model.specs.Changes.{flag_at, is_alike, next_change, previous_change}
-pub use Rattle.text_model.specs.Content.{Content, Marks, Slots, flags, map_marks, new_content, slot_sets, slots_left_of}
+pub use Rattle.text_model.specs.Content.{Content, Marks, Slots, flags, map_marks, new_content, shared_slots, slot_sets}
+pub use Rattle.text_model.specs.Content.{slots_left_of}
 pub use Rattle.text_model.specs.Documents.{ends_in_newline}
 pub use Rattle.text_model.specs.Lines.{IsLineOf, is_newline, line_of, lines}
 pub use Rattle.text_model.specs.MarkOrder.{marks_at, next_mark, previous_mark}
@@ -97,7 +100,7 @@ pub use Rattle.text_model.specs.declared.places.Place.{Place}
 pub use Rattle.text_model.specs.declared.places.TagSlot.{TagSlot}
 pub use Rattle.toggle_sums.proofs.ToggleLaws.{presence-append, tags_by_parity}
 pub use Rattle.toggle_sums.specs.CountLaws.{contains-differing, differing-associative, differing-commutative}
-pub use Rattle.toggle_sums.specs.CountLaws.{differing-empty, either, empty-differing, no_text-plus, plus-associative}
-pub use Rattle.toggle_sums.specs.CountLaws.{plus-no_text, same_slots, union-commutative}
+pub use Rattle.toggle_sums.specs.CountLaws.{differing-empty, differing-self, either, empty-differing, no_text-plus}
+pub use Rattle.toggle_sums.specs.CountLaws.{plus-associative, plus-no_text, same_slots, union-commutative}
 pub use Rattle.toggle_sums.specs.Counts.{Count, CountsFit, counting, no_text, plus}
 pub use Rattle.toggle_sums.specs.Toggles.{parity, presence, tags_from}

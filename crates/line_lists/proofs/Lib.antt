@@ -47,3 +47,4 @@ pub mod TextRows
 pub mod ToggleColumns
 pub mod VecLaws
 pub mod WholeLaws
+pub mod WithinLaws

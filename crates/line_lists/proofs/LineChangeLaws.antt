@@ -31,7 +31,7 @@ use Rattle.line_lists.proofs.WholeLaws.{length-toggled}
 use Rattle.std.specs.FinMap as finite
 
 -- a line that is lent, between those before it and those behind it
-split-lent : (lines : List LineContent) (k : ℕ) (line : LineContent) → slice_get lines k ≡ Some line →
+pub split-lent : (lines : List LineContent) (k : ℕ) (line : LineContent) → slice_get lines k ≡ Some line →
     take k lines ++ line ∷ drop (k + 1) lines ≡ lines
 split-lent lines k line is =
     sym (ap (λ rest. take k lines ++ rest) (drop_more lines k (plain_line []) (lent-there lines k line is)

@@ -1,9 +1,8 @@
 -- Which slots change where one is put in a set, or taken out of it: none, or that one.
 use Rattle.line_lists.proofs.Common.{◌≡◌, ℕ, Bool, true, false, not, ◌&&◌, ◌||◌, ◌==◌, refl, sym, ap, ◌∙◌, arith}
 use Rattle.line_lists.proofs.Common.{false≢true, nat_tests, nat_cmp_total, unsigned_tied, nat_cmp, Slots, differing}
-use Rattle.line_lists.proofs.Common.{set_slot, contains-differing, either, same_slots, ap₂}
+use Rattle.line_lists.proofs.Common.{set_slot, contains-differing, either, same_slots, ap₂, beq}
 use Rattle.segments.proofs.EntryLaws.{unequal}
-use Rattle.std.specs.Bool.{beq}
 use Rattle.text_model.specs.TagBitLaws.{contains_inserted}
 use Rattle.std.specs.FinSet as set
 

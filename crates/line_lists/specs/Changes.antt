@@ -1,5 +1,5 @@
 -- What an edit makes of a list of lines: one line changes, or pieces come in.
-use Rattle.std.specs.Prelude.{◌≡◌, ℕ, ◌<◌, List, [], ◌∷◌, length, option_to_list}
+use Rattle.std.specs.Prelude.{◌≡◌, ℕ, ◌<◌, List, [], ◌∷◌, Some, length, option_to_list, slice_get}
 use Rattle.text_model.specs.declared.edits.Step.{Step}
 use Rattle.text_model.specs.Content.{Content}
 use Rattle.toggle_sums.specs.Counts.{plus}
@@ -8,7 +8,7 @@ use Rattle.line_lists.specs.declared.line_changes.LineChange.{LineChange}
 use Rattle.line_lists.specs.declared.store.Change.{Change}
 use Rattle.line_lists.specs.declared.store.Change.TheVariants.{Line, Pieces}
 use Rattle.line_lists.specs.Edits.{made}
-use Rattle.line_lists.specs.Lists.{AreLines, AreRows, IsCounted, NumbersBelow, count_of, spliced}
+use Rattle.line_lists.specs.Lists.{AreLines, AreRows, IsCounted, NumbersBelow, count_of, has_mark, spliced}
 use Rattle.line_lists.specs.Pieces.{IsReady, content_made, freed, named}
 use Rattle.line_lists.specs.Texts.{content_of, whole}
 
@@ -30,6 +30,17 @@ pub record CanChange (lines : List LineContent) (change : LineChange) : Type 0 w
   pub within : change.index < length (lines_freed change lines)
   pub are : AreLines (lines_changed change lines)
   pub counted : IsCounted (plus (count_of (lines_freed change lines)) (count_of (change.line ∷ [])))
+
+-- a line can be edited where it lies: with the edited line the lines are those of a text, it can be counted together
+-- with all that are there, and the same marks stand in it
+pub record CanEdit (lines : List LineContent) (index : ℕ) (Fits : LineContent → Type 0)
+    (edited : LineContent → LineContent) : Type 0 where
+  pub line : LineContent
+  pub is : slice_get lines index ≡ Some line
+  pub fits : Fits line
+  pub are : AreLines (spliced index 1 (edited line ∷ []) lines)
+  pub counted : IsCounted (plus (count_of lines) (count_of (edited line ∷ [])))
+  pub marks : (number : ℕ) → has_mark number (edited line) ≡ has_mark number line
 
 -- and the numbers of its marks are below a bound
 pub record IsLineReady (lines : List LineContent) (bound : ℕ) (change : LineChange) : Type 0 where

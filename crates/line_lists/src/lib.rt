@@ -16,6 +16,7 @@ mod queries;
 mod removals;
 mod steps;
 mod store;
+mod within;
 
 pub use line_vec::LineVec;
 pub use lists::LineList;

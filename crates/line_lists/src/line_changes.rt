@@ -40,7 +40,7 @@ fn slots_before(tags: &TagSet, line: &Line, column: usize) -> TagSet
 }
 
 /// Returns whether a slot is on before a column of a line. `is_on` says whether it is on before the line.
-fn is_on_before(is_on: bool, line: &Line, column: usize, slot: TagSlot) -> bool
+pub fn is_on_before(is_on: bool, line: &Line, column: usize, slot: TagSlot) -> bool
     requires { column ≤ length line.now.columns }
     ensures { (tags : Slots) → is_on ≡ set.contains tags slot.0 →
         result ≡ set.contains (differing tags (tags_left_of (take column line.now.columns))) slot.0 }

@@ -11,7 +11,7 @@ ghost use Rattle.line_lists.specs.RowLaws.{AreLines-prop};
 ghost use Rattle.line_lists.specs.Texts.{whole};
 
 use crate::lists::LineList;
-use segments::Line;
+use segments::{Line, LineEdit};
 use std::alloc::{AllocError, Global};
 use text_model::{MarkNo, TagSet, TagSlot, WORDS};
 use toggle_sums::{Summary, Sums};
@@ -245,6 +245,13 @@ impl LineList for LineVec {
 
     fn replace(&mut self, index: usize, line: Line) {
         self.lines[index] = line;
+    }
+
+    fn edit_line<E: LineEdit>(&mut self, index: usize, edit: &E) -> Result<(), AllocError> {
+        let mut line = self.lines[index].try_clone()?;
+        edit.make(&mut line)?;
+        self.lines[index] = line;
+        Ok(())
     }
 
     fn splice(&mut self, from: usize, count: usize, new: Vec<Line>) {

@@ -1,19 +1,20 @@
 //! The trait of a list of lines: queries by line and offset, reservation of capacity, and splicing of lines.
 
 ghost use Rattle.std.specs.Prelude.{◌≡◌, ℕ, ◌+◌, ◌<◌, ◌≤◌, List, [], ◌∷◌, length, map, take, slice_get, Some, IfOk};
-ghost use Rattle.std.specs.Prelude.{◌++◌, IfSome, None, OnOk, chars, slice_range, string_bytes, true};
+ghost use Rattle.std.specs.Prelude.{◌++◌, IfSome, None, OnErr, OnOk, chars, slice_range, string_bytes, true};
 ghost use Rattle.std.specs.List.{All};
 ghost use Rattle.std.specs.FinSet as set;
 ghost use Rattle.text_model.specs.TagBits.{slot_count};
 ghost use Rattle.toggle_sums.specs.Counts.{IsBare, plus};
 ghost use Rattle.segments.specs.Columns.{LineContent, characters, plain_line};
+ghost use Rattle.line_lists.specs.Changes.{CanEdit};
 ghost use Rattle.line_lists.specs.Edits.{without_mark};
 ghost use Rattle.line_lists.specs.Lists.{AreLines, Holds, IsCounted, IsMarked, NumbersBelow, count_of, has_mark};
 ghost use Rattle.line_lists.specs.Lists.{has_marks, has_toggle, more_lines, next_line, previous_line, row_of};
 ghost use Rattle.line_lists.specs.Lists.{spliced};
 ghost use Rattle.line_lists.specs.Texts.{whole};
 
-use segments::Line;
+use segments::{Line, LineEdit};
 use std::alloc::{AllocError, Global};
 use text_model::{MarkNo, TagSet, TagSlot, WORDS};
 use toggle_sums::Sums;
@@ -196,6 +197,13 @@ pub trait LineList: Drop {
         ensures lines { lines self.new ≡ spliced index 1 (line ∷ []) (lines self.old) }
         ensures room { (count rows : ℕ) → has_room self.old count rows → has_room self.new count rows }
         ensures numbers { mark_room self.old ≤ mark_room self.new };
+
+    /// Makes an edit of a line where it lies; each mark stays in its line. If memory is refused, all is as it was.
+    fn edit_line<E: LineEdit>(&mut self, index: usize, edit: &E) -> Result<(), AllocError>
+        requires { CanEdit (lines self.old) index (E.fits edit.now) (E.edited edit.now) }
+        ensures made { OnOk result ((line : LineContent) → slice_get (lines self.old) index ≡ Some line →
+            lines self.new ≡ spliced index 1 (E.edited edit.now line ∷ []) (lines self.old)) }
+        ensures refused { OnErr result (lines self.new ≡ lines self.old) };
 
     /// Puts lines in the place of so many from one on: only those beyond these take room, in one row.
     fn splice(&mut self, from: usize, count: usize, new: Vec<Line>)

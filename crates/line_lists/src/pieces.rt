@@ -133,6 +133,21 @@ pub fn count_line<L: LineList>(list: &L, line: &Line) -> Result<(), AllocError>
     add_line(&mut sum, line)
 }
 
+/// Makes sure that a list can be counted together with one of its lines that has n characters more.
+pub fn count_longer<L: LineList>(list: &L, line: &Line, more: usize) -> Result<(), AllocError>
+    ensures lines { OnOk result ((count_of (L.lines list.now)).lines + 1 < 2 ^ 64) }
+    ensures characters { OnOk result
+        ((count_of (L.lines list.now)).characters + length line.now.columns + more < 2 ^ 64) }
+    ensures marks { OnOk result ((count_of (L.lines list.now)).marks + (line_count line.now).marks < 2 ^ 64) }
+{
+    let lines = list.len();
+    lines.checked_add(1).ok_or(AllocError)?;
+    let characters = list.start(lines).checked_add(line.len()).ok_or(AllocError)?;
+    characters.checked_add(more).ok_or(AllocError)?;
+    list.marks().checked_add(line.marks()).ok_or(AllocError)?;
+    Ok(())
+}
+
 /// Makes sure that a list and copies of its lines can be counted together.
 fn count<L: LineList>(list: &L, stops: &[Stop]) -> Result<(), AllocError>
     ensures { OnOk result (IsCounted (plus (count_of (L.lines list.now))

@@ -16,7 +16,7 @@ use crate::pieces::{
     Growth, Piece, bound_of, bound_with, count_line, growth_of, numbers_brought, pieces_of, place,
     take_marks,
 };
-use crate::queries;
+use crate::{queries, within};
 use std::alloc::{AllocError, Global};
 use text_model::{CharacterTest, Edit, LineSpan, MarkNo, Place, Step, TagSet, TagSlot, TextStore};
 
@@ -308,6 +308,28 @@ impl<L: LineList> TextStore for LineStore<L> {
 
     fn seek_line(&mut self, line: usize) {
         self.list.seek_line(line);
+    }
+
+    fn put_within(&mut self, at: usize, text: &str) -> Result<bool, AllocError> {
+        within::put_within(&mut self.list, at, text)
+    }
+
+    fn take_within(&mut self, from: usize, to: usize) -> Result<bool, AllocError> {
+        within::take_within(&mut self.list, from, to)
+    }
+
+    fn tag_within(
+        &mut self,
+        from: usize,
+        to: usize,
+        slot: TagSlot,
+        is_on: bool,
+    ) -> Result<bool, AllocError> {
+        within::tag_within(&mut self.list, from, to, slot, is_on)
+    }
+
+    fn mark_within(&mut self, number: MarkNo, place: Place) -> Result<bool, AllocError> {
+        within::mark_within(&mut self.list, number, place)
     }
 
     fn prepare(&mut self, edit: &Edit) -> Result<Change, AllocError> {

@@ -1,6 +1,5 @@
-use Rattle.line_lists.proofs.Common.{◌≡◌, eqb-true, length, sym, ap, ◌∙◌, after_text, place_of, text_at}
+use Rattle.line_lists.proofs.Common.{◌≡◌, eqb-true, length, sym, ap, ◌∙◌, after_text, place_of, text_at, no_characters}
 use Rattle.line_lists.proofs.InsertionLaws.{text-none}
-use Rattle.segments.proofs.TextLaws.{no_characters}
 use Rattle.line_lists.proofs.drafts.Draft.put_text.Goals as goal
 
 pub returns-then-is_empty-clause-new : goal.returns-then-is_empty-clause-new
