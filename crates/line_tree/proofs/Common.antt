@@ -9,12 +9,13 @@ pub use Rattle.std.proofs.Common.{subst, suc, sym, take, take_all, true, vec_cap
 pub use Rattle.line_lists.proofs.CountRows.{count-append, count-characters, count-lines}
 pub use Rattle.line_lists.proofs.FindLaws.{drop_after}
 pub use Rattle.line_lists.proofs.FreedLaws.{eq_self, same-line}
+pub use Rattle.line_lists.proofs.LineChangeLaws.{spliced-fits}
 pub use Rattle.line_lists.proofs.SearchRows.{FailFrom, NextAt, PreviousAt, line_at, next-found, next-none}
 pub use Rattle.line_lists.proofs.SearchRows.{previous-found, previous-none}
 pub use Rattle.line_lists.proofs.VecLaws.{lines-are-without, new-lines, whole-without}
 pub use Rattle.line_lists.specs.Edits.{without_mark}
-pub use Rattle.line_lists.specs.Lists.{AreLines, AreRows, IsCounted, NumbersBelow, count_of, has_mark, has_marks}
-pub use Rattle.line_lists.specs.Lists.{more_lines, next_line, previous_line, row_of, spliced}
+pub use Rattle.line_lists.specs.Lists.{AreLines, AreRows, IsCounted, IsMarked, NumbersBelow, count_of, has_mark}
+pub use Rattle.line_lists.specs.Lists.{has_marks, more_lines, next_line, previous_line, row_of, spliced}
 pub use Rattle.line_lists.specs.Texts.{whole}
 pub use Rattle.line_tree.specs.Aims.{AddsUp, characters-add, characters_behind, lines-add, nothing-adds, slot_behind}
 pub use Rattle.line_tree.specs.Aims.{slots_behind, sum-adds, sum_behind}
@@ -33,6 +34,7 @@ pub use Rattle.line_tree.specs.Nearest.{passes, shows}
 pub use Rattle.line_tree.specs.Places.{Begins, IsChild, IsLineAt, Sits, characters_before, line_names, lines_before}
 pub use Rattle.line_tree.specs.Raising.{Becomes, CanLift, CanRaise, CanTakeRow, HasKids, HasSlots, Lifted, Lifts}
 pub use Rattle.line_tree.specs.Raising.{Raises, TakesRow, below_all, trees_at, with_lines}
+pub use Rattle.line_tree.specs.Replacing.{CanEditNamed, IsStale, PutsOver}
 pub use Rattle.line_tree.specs.Room.{CanPutRow, HasRoom, KeepsRoom, PutsRoom, SpendsRoom, levels_at_most, levels_up_to}
 pub use Rattle.line_tree.specs.Room.{line_room, most_in_row, nodes_above, room_by_height, room_by_width}
 pub use Rattle.line_tree.specs.Searches.{Arrives, Reaches, sum_before, sum_below}
@@ -88,6 +90,7 @@ pub use Rattle.std.specs.FinMap.{empty_of_len, get-empty, len-empty, len-insert,
 pub use Rattle.std.specs.List.{All, AllByRecursion, count_by, filter_map, flat_map, insert, remove, sum_by}
 pub use Rattle.std.specs.Option.{option_map}
 pub use Rattle.std.specs.Ordering.{eq_by_cmp, is_lt, nat_cmp}
+pub use Rattle.std.specs.Prelude.{⊤, ◌&&◌, OnErr, T}
 pub use Rattle.text_model.specs.Content.{Marks, Slots}
 pub use Rattle.text_model.specs.SlotSets.{differing}
 pub use Rattle.text_model.specs.Splices.{removed}

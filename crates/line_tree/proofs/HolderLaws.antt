@@ -4,6 +4,7 @@ use Rattle.line_tree.proofs.Common.{length, take, drop, refl, sym, ap, ap₂, �
 use Rattle.line_tree.proofs.Common.{Option, None, Some, none-some, same_Some, Place, LineContent, Named, contents}
 use Rattle.line_tree.proofs.Common.{NodePtr, AreRows, has_mark, has_marks, next_line, whole, drop_after, FailFrom}
 use Rattle.line_tree.proofs.Common.{next-found, next-none, AreBare, IsMarkedBelow, holder, lines_without, IsLineAt}
+use Rattle.line_tree.proofs.Common.{changed}
 use mathlib.Core.Bool.{false≢true}
 use Rattle.line_lists.proofs.MarkPlaces.{has-none}
 use Rattle.line_lists.proofs.RowLaws.{free-parts}
@@ -245,3 +246,13 @@ all-noted n at to ls o ordered bare is =
 
 pub none-out : (n from : ℕ) (ls : List Named) → holder n (lines_without from from ls) ≡ holder n ls
 none-out n from ls = ap (holder n) (whole-list from ls)
+
+-- where a line changes and keeps its marks, each mark is where it was
+pub holder-changed : (n k : ℕ) (ls : List Named) (f : LineContent → LineContent) →
+    ((l : Named) → slice_get ls k ≡ Some l → has_mark n (f l.1) ≡ has_mark n l.1) →
+    holder n (changed k f ls) ≡ holder n ls
+holder-changed n zero [] f same = refl
+holder-changed n zero (l ∷ ls) f same = ap (λ b. cond b (Some l.0) (holder n ls)) (same l refl)
+holder-changed n (suc k) [] f same = refl
+holder-changed n (suc k) (l ∷ ls) f same =
+    ap (λ h. cond (has_mark n l.1) (Some l.0) h) (holder-changed n k ls f same)

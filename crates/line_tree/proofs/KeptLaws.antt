@@ -19,7 +19,7 @@ insert-same m p r is = let n = finite.insert m p r in
       | inr other ↦ get_other m p r q other
     ])
 
-update-same : (m : Records) (p : NodePtr) (f : Record → Record) (r : Record) → finite.get m p ≡ Some r → f r ≡ r →
+pub update-same : (m : Records) (p : NodePtr) (f : Record → Record) (r : Record) → finite.get m p ≡ Some r → f r ≡ r →
     update m p f ≡ m
 unfolding update
 update-same m p f r is same = ap (updated m p f) is ∙ ap (finite.insert m p) same ∙ insert-same m p r is

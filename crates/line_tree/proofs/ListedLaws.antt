@@ -7,9 +7,9 @@ use Rattle.line_tree.proofs.Common.{none-some, same_Some, slice_get-map, slice_g
 use Rattle.line_tree.proofs.Common.{LineContent, plain_line, Named, contents, total, NodePtr, AreLines, IsCounted}
 use Rattle.line_tree.proofs.Common.{NumbersBelow, count_of, has_mark, next_line, spliced, whole, count-characters}
 use Rattle.line_tree.proofs.Common.{count-lines, FailFrom, NextAt, new-lines, IsPlaceAt, IsTable, holder, lines_without}
-use Rattle.line_tree.proofs.Common.{noted, IsLineAt, append_assoc, length-drop, AreRows, IsThere, LastLine}
+use Rattle.line_tree.proofs.Common.{noted, IsLineAt, append_assoc, length-drop, AreRows, IsThere, LastLine, IsMarked}
 use Rattle.std.proofs.Common.{option_map}
-use Rattle.line_lists.specs.Lists.{Holds, IsMarked}
+use Rattle.line_lists.specs.Lists.{Holds}
 use Rattle.line_tree.proofs.HolderLaws.{alone, not-first}
 use Rattle.line_tree.proofs.NearestLaws.{long, next-is, next-no}
 use Rattle.line_tree.proofs.PrefixLaws.{count-contents, count-first}

@@ -1,11 +1,11 @@
 -- A line in another one's place, under its name, and what a table of names says then.
 use Rattle.line_tree.proofs.Common.{◌≡◌, ℕ, suc, [], ◌∷◌, ◌+◌, ◌-◌, ◌≤◌, ◌++◌, cond, List, length, take, drop, refl}
-use Rattle.line_tree.proofs.Common.{sym, ap, ◌∙◌, subst, arith, append_assoc, slice_get, Option, None, Some}
-use Rattle.line_tree.proofs.Common.{plus-no_text, FitsSum, LineContent, line_count, Named, contents, total, NodePtr}
-use Rattle.line_tree.proofs.Common.{plus, AreLines, IsCounted, NumbersBelow, count_of, has_mark, spliced, AreBare}
-use Rattle.line_tree.proofs.Common.{IsTable, holder, lines_without, noted, changed, IsThere, whole, IfSome, ◌<◌}
-use Rattle.line_tree.proofs.Common.{take_at, length-take-le, same_Some, slice_get_within, LastLine, count-characters}
-use Rattle.line_tree.proofs.Common.{◌^◌}
+use Rattle.line_tree.proofs.Common.{sym, ap, ap₂, IsLineAt, ◌∙◌, subst, arith, append_assoc, slice_get, Option, None}
+use Rattle.line_tree.proofs.Common.{Some, plus-no_text, FitsSum, LineContent, line_count, Named, contents, total}
+use Rattle.line_tree.proofs.Common.{NodePtr, plus, AreLines, IsCounted, NumbersBelow, count_of, has_mark, spliced}
+use Rattle.line_tree.proofs.Common.{AreBare, IsTable, holder, lines_without, noted, changed, IsThere, whole, IfSome}
+use Rattle.line_tree.proofs.Common.{◌<◌, take_at, length-take-le, same_Some, slice_get_within, LastLine}
+use Rattle.line_tree.proofs.Common.{count-characters, ◌^◌}
 use Rattle.std.proofs.Common.{option_map}
 use Rattle.line_tree.proofs.ChangingLaws.{changed-at}
 use Rattle.line_tree.proofs.HolderLaws.{none-out}
@@ -151,3 +151,11 @@ placed-fits ls k start name line are starts at =
       are.counted.characters,
       count-characters (contents ls),
     )
+
+-- a line with its name, from each alone
+pub named-listed : (ls : List Named) (k : ℕ) (name : NodePtr) (line : LineContent) → IsLineAt ls k name →
+    slice_get (contents ls) k ≡ Some line → slice_get ls k ≡ Some (name, line)
+named-listed ls k name line at is =
+    let found = named_line ls k name at in
+    let same = same_Some found.0.1 line (sym (listed ls k found.0.0 found.0.1 found.1) ∙ is) in
+    found.1 ∙ ap₂ (λ (n : NodePtr) (l : LineContent). Some (n, l)) found.2 same

@@ -12,8 +12,7 @@ use Rattle.line_tree.proofs.Common.{◌≡◌, ℕ, zero, suc, ◌+◌, ◌-◌,
 use Rattle.line_tree.proofs.Common.{sym, ap, ◌∙◌, subst, arith, plus-commutative, union-associative, union-commutative}
 use Rattle.line_tree.proofs.Common.{union-self, Count, IsWithin, no_text, plus, FitsSum, resummed, sums, LineContent}
 use Rattle.line_tree.proofs.Common.{line_count, Named, total, NodePtr, Records, kids, row, lines_in, sum_at, Finds}
-use Rattle.line_tree.proofs.Common.{HasRow, CanChange, Changes, changed, Found}
-use Rattle.line_tree.specs.Replacing.{PutsOver}
+use Rattle.line_tree.proofs.Common.{HasRow, CanChange, Changes, changed, Found, PutsOver}
 use Rattle.line_tree.proofs.ChangingLaws.{can-child, changes-line, changes-node, lines-changed, node-row, node-sum}
 use Rattle.line_tree.proofs.ChangingLaws.{row-sum, sum-changed, was-parts}
 use Rattle.line_tree.proofs.ClimbingLaws.{Above, Climbs, down, next}

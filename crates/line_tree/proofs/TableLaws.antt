@@ -3,8 +3,7 @@ use Rattle.line_tree.proofs.Common.{◌≡◌, ℕ, zero, suc, ◌+◌, ◌<◌,
 use Rattle.line_tree.proofs.Common.{◌++◌, inl, inr, length, take, set, refl, sym, ap, ◌∙◌, arith, Option, None, Some}
 use Rattle.line_tree.proofs.Common.{eq_by_cmp, is_lt, nat_cmp, get_or_past, get_or-set_other, get_or-set_same, take_all}
 use Rattle.line_tree.proofs.Common.{cases_lt, none-some, same_Some, slice_get_within, Place, LineContent, NodePtr}
-use Rattle.line_tree.proofs.Common.{tied_same, NumbersBelow, has_mark, eq_self, noted, is_some, slice_get}
-use Rattle.std.specs.Prelude.{T, ⊤, ◌&&◌}
+use Rattle.line_tree.proofs.Common.{tied_same, NumbersBelow, has_mark, eq_self, noted, is_some, slice_get, T, ⊤, ◌&&◌}
 use Rattle.std.specs.FinMap.Entries.{below_all, find, is_sorted}
 use Rattle.std.proofs.lemmas.Bool.Decides.{nat_tests}
 use mathlib.Core.Bool.{false≢true}

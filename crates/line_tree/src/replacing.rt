@@ -1,21 +1,24 @@
-//! Replaces a line under its name, and updates the sums from that line up to the root.
+//! Replaces a line under its name, or edits it where it lies, and updates the sums from that line up to the root.
 
-ghost use Rattle.std.specs.Prelude.{◌≡◌, ℕ};
+ghost use Rattle.std.specs.Prelude.{◌≡◌, ℕ, IfSome, OnErr, OnOk};
+ghost use Rattle.std.specs.FinMap as finite;
 ghost use Rattle.raw_nodes.specs.Names.{records, rooms, spares};
 ghost use Rattle.raw_nodes.specs.Rows.{kids, row};
-ghost use Rattle.segments.specs.Columns.{line_count};
+ghost use Rattle.raw_nodes.specs.Records.{Records};
+ghost use Rattle.segments.specs.Columns.{LineContent, line_count};
 ghost use Rattle.toggle_sums.specs.Counts.{Count, IsWithin, plus};
 ghost use Rattle.line_tree.specs.Changes.{Distinct, FitsSum, resummed, sums};
 ghost use Rattle.line_tree.specs.Finds.{HasRow};
 ghost use Rattle.line_tree.specs.Places.{IsLineAt};
-ghost use Rattle.line_tree.specs.Shape.{IsTree, lines_in, sum_at, tree_at};
+ghost use Rattle.line_tree.specs.Shape.{IsTree, line_of, lines_in, sum_at, tree_at};
 ghost use Rattle.line_tree.specs.Taking.{ChangesNamed};
-ghost use Rattle.line_tree.specs.Replacing.{PutsOver};
+ghost use Rattle.line_tree.specs.Replacing.{CanEditNamed, EditsNamed, EditsOver, IsStale, PutsOver};
 ghost use Rattle.line_tree.specs.Trees.{names, total};
 
 use crate::fill::resum;
 use raw_nodes::{NodePtr, NodeStore, Ticks};
-use segments::Line;
+use segments::{Line, LineEdit};
+use std::alloc::AllocError;
 use toggle_sums::Exchange;
 
 /// Puts a line in the place of another, under its name, and says what went and what came.
@@ -31,6 +34,31 @@ fn put_over<C: Ticks>(store: &mut NodeStore<C>, name: NodePtr, line: Line, excha
     place.sum_to(&mut exchange.gone);
     *place = line;
     exchange.compare();
+}
+
+/// Makes an edit of a line where it lies, and says what went and what came.
+fn edit_over<C: Ticks, E: LineEdit>(
+    store: &mut NodeStore<C>,
+    name: NodePtr,
+    edit: &E,
+    exchange: &mut Exchange,
+) -> Result<(), AllocError>
+    requires line { IsTree (records store.old) 0 name }
+    requires fits { IfSome (line_of (finite.get (records store.old) name)) (E.fits edit.now) }
+    ensures edits { OnOk result (EditsOver (records store.old) (records store.new) name (E.edited edit.now)
+        exchange.new.gone exchange.new.more) }
+    ensures refused { OnErr result (records store.new ≡ records store.old) }
+    ensures spares { spares store.new ≡ spares store.old }
+    ensures rooms { rooms store.new ≡ rooms store.old }
+{
+    exchange.open();
+    let line = store.line_mut(name).unwrap();
+    line.sum_to(&mut exchange.gone);
+    edit.make(line)?;
+    line.trim();
+    line.sum_to(&mut exchange.more);
+    exchange.compare();
+    Ok(())
 }
 
 /// Makes a node's sum that of its children, in which one line's counts came for another's. Which slots are toggled is
@@ -58,6 +86,30 @@ fn exchange_sum<C: Ticks>(
     }
 }
 
+/// Exchanges what went with a line for what came with it in the sums from that line up, so that nothing is looked for.
+fn exchange_up<C: Ticks>(
+    store: &mut NodeStore<C>,
+    root: NodePtr,
+    height: usize,
+    name: NodePtr,
+    exchange: &Exchange,
+    ticks: &mut C,
+)
+    requires stale { (m : Records) × (new : LineContent)
+        × IsStale m new (records store.old) height root name exchange.now.gone exchange.now.more }
+    ensures changes { (m : Records) (new : LineContent) →
+        IsStale m new (records store.old) height root name exchange.now.gone exchange.now.more →
+        ChangesNamed m (records store.new) height root name (λ _. new) exchange.now.gone (line_count new) }
+    ensures spares { spares store.new ≡ spares store.old }
+    ensures rooms { rooms store.new ≡ rooms store.old }
+{
+    let mut at = name;
+    for level in 0..height {
+        at = store.parent(at, ticks).unwrap();
+        exchange_sum(store, at, exchange, ticks);
+    }
+}
+
 /// Puts a line in the place of the one with a name, under that name. It goes from the line up, so that nothing is
 /// looked for.
 pub fn replace_up<C: Ticks>(
@@ -79,9 +131,31 @@ pub fn replace_up<C: Ticks>(
 {
     let mut exchange = Exchange::none();
     put_over(store, name, line, &mut exchange);
-    let mut at = name;
-    for level in 0..height {
-        at = store.parent(at, ticks).unwrap();
-        exchange_sum(store, at, &exchange, ticks);
-    }
+    exchange_up(store, root, height, name, &exchange, ticks);
+}
+
+/// Makes an edit of the line with a name where it lies. If memory is refused, all is as it was.
+pub fn edit_up<C: Ticks, E: LineEdit>(
+    store: &mut NodeStore<C>,
+    root: NodePtr,
+    height: usize,
+    name: NodePtr,
+    edit: &E,
+    ticks: &mut C,
+) -> Result<(), AllocError>
+    requires tree { IsTree (records store.old) height root }
+    requires distinct { Distinct (names height (tree_at (records store.old) height root)) }
+    requires named { (k : ℕ) × IsLineAt (lines_in (records store.old) height root) k name }
+    requires can { IfSome (line_of (finite.get (records store.old) name))
+        (CanEditNamed (E.fits edit.now) (E.edited edit.now) (total (lines_in (records store.old) height root))) }
+    ensures edits { OnOk result
+        (EditsNamed (records store.old) (records store.new) height root name (E.edited edit.now)) }
+    ensures refused { OnErr result (records store.new ≡ records store.old) }
+    ensures spares { spares store.new ≡ spares store.old }
+    ensures rooms { rooms store.new ≡ rooms store.old }
+{
+    let mut exchange = Exchange::none();
+    edit_over(store, name, edit, &mut exchange)?;
+    exchange_up(store, root, height, name, &exchange, ticks);
+    Ok(())
 }

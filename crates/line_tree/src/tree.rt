@@ -10,14 +10,14 @@ use crate::locate::{Located, locate};
 use crate::nearest::{Wanted, next, previous};
 use crate::prefix::prefix;
 use crate::remove::{Branch, lower, remove_in};
-use crate::replacing::replace_up;
+use crate::replacing::{edit_up, replace_up};
 use crate::room::{nodes_above, row_ends};
 use crate::select::select;
 use crate::starts::{Placed, is_odd, odd_slots, place, start};
 use crate::taking::take_up;
 use crate::walk::behind;
 use raw_nodes::{NodePtr, NodeStore, Ticks};
-use segments::Line;
+use segments::{Line, LineEdit};
 use std::alloc::{AllocError, Global};
 use std::marker::Model;
 use text_model::{MarkNo, TagSet, TagSlot, WORDS};
@@ -61,7 +61,7 @@ impl<C: Ticks> Model for LineTree<C> {
 }
 
 impl<C: Ticks> LineTree<C> {
-    ghost use Rattle.std.specs.Prelude.{◌≡◌, ℕ, ◌+◌, ◌-◌, ◌*◌, ◌/◌, ◌^◌, ◌≤◌, ◌<◌, OnOk, IfOk, IfSome};
+    ghost use Rattle.std.specs.Prelude.{◌≡◌, ℕ, ◌+◌, ◌-◌, ◌*◌, ◌/◌, ◌^◌, ◌≤◌, ◌<◌, OnErr, OnOk, IfOk, IfSome};
     ghost use Rattle.std.specs.Prelude.{[], ◌∷◌, Some, length, min, option_map, slice_get, take, true};
     ghost use Rattle.std.specs.FinSet as set;
     ghost use Rattle.std.specs.List.{insert, remove};
@@ -76,11 +76,12 @@ impl<C: Ticks> LineTree<C> {
     ghost use Rattle.line_tree.specs.Shape.{lines_in};
     ghost use Rattle.line_lists.specs.Texts.{whole};
     ghost use Rattle.line_tree.specs.Trees.{Named, contents, total};
-    ghost use Rattle.segments.specs.Columns.{line_count, plain_line};
+    ghost use Rattle.segments.specs.Columns.{LineContent, line_count, plain_line};
     ghost use Rattle.line_tree.specs.Changes.{Distinct, FitsSum};
     ghost use Rattle.line_tree.specs.Places.{IsLineAt, line_names};
     ghost use Rattle.line_tree.specs.Locating.{IsPlaceAt};
     ghost use Rattle.line_tree.specs.Room.{HasRoom, KeepsRoom, levels_at_most, line_room, most_in_row};
+    ghost use Rattle.line_tree.specs.Replacing.{CanEditNamed};
     ghost use Rattle.line_tree.specs.Taking.{changed};
 
     /// A tree of one line, the lone newline. Fails for want of memory.
@@ -603,6 +604,23 @@ impl<C: Ticks> LineTree<C> {
     {
         let name = self.select(k, ticks);
         self.replace_named(name, line, ticks);
+    }
+
+    /// Makes an edit of the line with a name where it lies. If memory is refused, all is as it was.
+    pub(crate) fn edit_named<E: LineEdit>(
+        &mut self,
+        name: NodePtr,
+        edit: &E,
+        ticks: &mut C,
+    ) -> Result<(), AllocError>
+        requires { (k : ℕ) × (line : LineContent) × (slice_get self.old.lines k ≡ Some (name, line))
+            × CanEditNamed (E.fits edit.now) (E.edited edit.now) (total self.old.lines) line }
+        ensures made { OnOk result ((k : ℕ) (line : LineContent) → slice_get self.old.lines k ≡ Some (name, line) →
+            self.new.lines ≡ changed k (λ _. E.edited edit.now line) self.old.lines) }
+        ensures refused { OnErr result (self.new.lines ≡ self.old.lines) }
+    {
+        edit_up(&mut self.store, self.root, self.height, name, edit, ticks)?;
+        Ok(())
     }
 
     /// The same where the old line is known by its name.

@@ -16,7 +16,7 @@ use crate::starts::Placed;
 use crate::tree::LineTree;
 use line_lists::LineList;
 use raw_nodes::{NodePtr, Steps};
-use segments::Line;
+use segments::{Line, LineEdit};
 use std::alloc::{AllocError, Global};
 use text_model::{MarkNo, TagSet, TagSlot, WORDS};
 use toggle_sums::Sums;
@@ -262,6 +262,19 @@ impl LineList for TreeLines {
             start,
             end,
         });
+    }
+
+    fn edit_line<E: LineEdit>(&mut self, index: usize, edit: &E) -> Result<(), AllocError> {
+        let Placed { name, start } = self.place(index);
+        self.tree.edit_named(name, edit, &mut Steps::new())?;
+        let end = start + self.tree.line(name).len();
+        self.last = Some(LastLine {
+            index,
+            name,
+            start,
+            end,
+        });
+        Ok(())
     }
 
     fn splice(&mut self, from: usize, count: usize, mut new: Vec<Line>) {

@@ -1,5 +1,5 @@
 use Rattle.line_tree.proofs.Common.{◌≡◌, ◌+◌, ap, contents, length, vec_len, subst, sym, arith, AreLines, NumbersBelow}
-use Rattle.line_lists.proofs.LineChangeLaws.{spliced-fits}
+use Rattle.line_tree.proofs.Common.{spliced-fits}
 use Rattle.line_tree.proofs.OverLaws.{fits-one, over-below, over-contents, over-table, over-there}
 use Rattle.line_tree.proofs.SpendingLaws.{keeps-room}
 use Rattle.line_tree.proofs.tree_lines.TreeLinesLineList.replace.Goals as goal
