@@ -4,7 +4,7 @@ ghost use Rattle.std.specs.Prelude.{◌<◌, ◌≤◌, length};
 
 use crate::edits::{SLOTS, tags_of};
 use crate::queries::{NONE, bits_of, number_of};
-use segments::Line;
+use segments::{InsertText, Line, LineEdit, RemoveRange, ResetToggles};
 use std::alloc::{AllocError, Global};
 use std::process::Abort;
 use std::test::Fail;
@@ -492,6 +492,51 @@ fn check_cases(rt: &impl Abort, alloc: Global, cases: &[Case]) -> Result<(), All
 #[test]
 fn lines_answer(rt: HostRuntime) -> Result<(), Fail> {
     check_cases(&rt, rt.alloc(), &CASES)?;
+    Ok(())
+}
+
+// Makes each kind of edit of a line where it lies, and returns where a slot is toggled then.
+fn edit_line(line: &mut Line) -> Result<Option<[bool; 3]>, AllocError> {
+    if line.len() < 2 {
+        return Ok(None);
+    }
+    InsertText {
+        column: 2,
+        text: "xy",
+    }
+    .make(line)?;
+    if line.len() < 6 {
+        return Ok(None);
+    }
+    RemoveRange { from: 0, to: 1 }.make(line)?;
+    if line.len() < 4 {
+        return Ok(None);
+    }
+    let edit = ResetToggles {
+        slot: SLOTS[1],
+        from: 1,
+        to: 3,
+        first: true,
+        last: true,
+    };
+    edit.make(line)?;
+    if line.len() < 4 {
+        return Ok(None);
+    }
+    line.reset_toggles(SLOTS[2], 1, 3, false, false)?;
+    if line.len() < 4 {
+        return Ok(None);
+    }
+    Ok(Some([line.is_toggled(1), line.is_toggled(2), line.is_toggled(3)]))
+}
+
+#[test]
+fn a_line_is_edited_where_it_lies(rt: HostRuntime) -> Result<(), Fail> {
+    let mut line = Line::new(rt.alloc(), "abcd\n")?;
+    let toggled = edit_line(&mut line)?;
+    assert!(&rt; toggled == Some([true, false, true]));
+    let has_text = has_text(&line, "bxycd\n")?;
+    assert!(&rt; has_text);
     Ok(())
 }
 

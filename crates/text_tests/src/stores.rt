@@ -1,13 +1,13 @@
 //! What a store answers after an edit, on each store: rows of steps and of queries at both ends of a text.
 
-use crate::edits::{PlainStep, store_of};
+use crate::edits::{PlainStep, SLOTS, edit_of, make, store_of};
 use crate::queries::{NONE, Query, ask};
 use line_lists::{LineStore, LineVec};
 use line_tree::TreeStore;
 use std::alloc::{AllocError, Global};
 use std::process::Abort;
 use std::test::Fail;
-use text_model::{Gravity, PlainStore, TagSlot, TextStore};
+use text_model::{Gravity, MarkNo, Place, PlainStore, TagSlot, TextStore};
 
 // A query, the offset or the number that it is asked at, and what is answered.
 type Row = (Query, usize, (usize, usize));
@@ -323,5 +323,38 @@ fn edits_are_made(rt: HostRuntime) -> Result<(), Fail> {
     check::<PlainStore>(&rt, rt.alloc(), &CASES)?;
     check::<LineStore<LineVec>>(&rt, rt.alloc(), &CASES)?;
     check::<TreeStore>(&rt, rt.alloc(), &CASES)?;
+    Ok(())
+}
+
+// Whether a store makes each kind of edit of one line at once, in a text that becomes `bcd` and a newline.
+fn makes_at_once<S: TextStore>(alloc: Global) -> Result<bool, AllocError> {
+    let mut store = S::new(alloc)?;
+    if store.len() != 1 || !store.put_within(0, "abcd")? {
+        return Ok(false);
+    }
+    let start = Place {
+        offset: 0,
+        gravity: Gravity::Left,
+    };
+    let edit = edit_of(alloc, &[PlainStep::PutMark(7, 3, Gravity::Right)])?;
+    if !make(&mut store, &edit)? || !store.mark_within(MarkNo(7), start)? || store.len() != 5 {
+        return Ok(false);
+    }
+    if !store.tag_within(1, 3, SLOTS[2], true)? || store.len() != 5 || !store.take_within(0, 1)? {
+        return Ok(false);
+    }
+    if store.len() != 4 || store.mark_place(MarkNo(7)) != Some(start) {
+        return Ok(false);
+    }
+    let is_tagged = store.has_tag(1, SLOTS[2]) && !store.has_tag(2, SLOTS[2]);
+    Ok(is_tagged && store.copy_text(0, 4)?.as_str() == "bcd\n")
+}
+
+#[test]
+fn edits_of_one_line_are_made_at_once(rt: HostRuntime) -> Result<(), Fail> {
+    let is_made = makes_at_once::<LineStore<LineVec>>(rt.alloc())?;
+    assert!(&rt; is_made);
+    let is_made = makes_at_once::<TreeStore>(rt.alloc())?;
+    assert!(&rt; is_made);
     Ok(())
 }
