@@ -52,6 +52,7 @@ pub use Rattle.std.proofs.lemmas.List.{drop-append-le, drop-map, drop_all, drop_
 pub use Rattle.std.proofs.lemmas.List.{get_or-reverse, get_or_default, length-map, length-replicate, length-reverse}
 pub use Rattle.std.proofs.lemmas.List.{length-take-le, length_push, map-append, map-id, nil_from_length, reverse-append}
 pub use Rattle.std.proofs.lemmas.List.{reverse-reverse, same_lists, take-append-le, take-take, take_at, take_more}
+pub use Rattle.std.proofs.lemmas.List.{with_items_is}
 pub use Rattle.std.proofs.lemmas.List.Elements.{All-append, All-cons, All-get_or, All-head, All-map, All-more, All-nil}
 pub use Rattle.std.proofs.lemmas.List.Elements.{All-push, All-tail}
 pub use Rattle.std.proofs.lemmas.List.Folds.{drop_split, list_any-append}
@@ -64,9 +65,9 @@ pub use Rattle.std.specs.Char.{IsScalar, len_utf8}
 pub use Rattle.std.specs.Cmp.{nat_cmp_total}
 pub use Rattle.std.specs.List.{All, remove}
 pub use Rattle.std.specs.Option.{is_none, option_to_list}
-pub use Rattle.std.specs.Prelude.{if◌then◌else◌, ⊤, ◌≢◌, Box, IfSome, IsSome, box_value, bytes_eq, chars, encode_utf8}
-pub use Rattle.std.specs.Prelude.{encode_utf8_all, flat_map, nat_le, nat_lt, not, option_and_then, option_map}
-pub use Rattle.std.specs.Prelude.{slice_get, slice_range, string_bytes, sum_by, unwrap_or}
+pub use Rattle.std.specs.Prelude.{if◌then◌else◌, ⊤, ◌≢◌, Box, IfSome, IsSome, IsUtf8, Vec, box_value, bytes_eq, chars}
+pub use Rattle.std.specs.Prelude.{encode_utf8, encode_utf8_all, flat_map, nat_le, nat_lt, not, option_and_then}
+pub use Rattle.std.specs.Prelude.{option_map, slice_get, slice_range, string_bytes, sum_by, unwrap_or}
 pub use Rattle.text_cursor.proofs.AroundLaws.{characters-of, length-characters, length-slot_sets, line-append-same}
 pub use Rattle.text_cursor.proofs.AroundLaws.{line-before, line-front, line_start-past, next-behind, next-within}
 pub use Rattle.text_cursor.proofs.AroundLaws.{next_line-drawn, next_line-is, next_line-removed, no-next, number-of}
@@ -89,7 +90,7 @@ pub use Rattle.text_model.proofs.StepLaws.{Fits-append, after-append, length-aft
 pub use Rattle.text_model.proofs.TextLaws.{chars-push, chars-scalars}
 pub use Rattle.text_model.specs.Content.{Content, Marks, Slots, characters, map_marks, slot_sets, slots_left_of}
 pub use Rattle.text_model.specs.Documents.{ends_in_newline}
-pub use Rattle.text_model.specs.Lines.{IsLineStart, is_newline, line_of, line_start, lines}
+pub use Rattle.text_model.specs.Lines.{IsLineOf, IsLineStart, is_newline, line_of, line_start, lines}
 pub use Rattle.text_model.specs.Splices.{changed, drawn, goes_behind, inserted, is_right, moved, removed}
 pub use Rattle.text_model.specs.Steps.{Fits, StepFits, after, after_insertion, after_removal, after_step, cells_of}
 pub use Rattle.text_model.specs.Steps.{set_slot, with_slot, without_slots}

@@ -26,3 +26,4 @@ pub mod SpotLaws
 pub mod StartLaws
 pub mod TagLaws
 pub mod TellLaws
+pub mod WithinLaws

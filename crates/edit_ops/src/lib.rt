@@ -25,6 +25,7 @@ mod spot_walks;
 mod spots;
 mod tagging;
 mod texts;
+mod within;
 
 pub use anchors::{Anchors, anchors_stand};
 pub use changes::{ChangeList, TextChange, tell};
@@ -43,3 +44,4 @@ pub use spans::Span;
 pub use spots::Spot;
 pub use tagging::{plan_clear, plan_tag};
 pub use texts::{EditRules, EditedText, Target};
+pub use within::{delete_within, insert_within};
