@@ -53,7 +53,7 @@ NAMED = {
     ],
     "index_grammar": ["shortest_mark"],
     "text_index": ["end_from_last_line"],
-    "search_dump": ["foreign_cut", "foreign_cut_at_sel", "wrapped_overlap"],
+    "search_dump": ["foreign_cut", "wrapped_overlap"],
     "documents": ["peer_edit_unrecorded", "peer_left_behind", "redo_closes_group", "tags_left_behind"],
     "peers": ["late_bad_list", "shared_tag_names"],
     "script_cli": ["read_fault_is_end", "repeats_script", "runs_half_command", "writes_nothing"],
