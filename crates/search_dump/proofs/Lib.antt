@@ -2,6 +2,7 @@ pub mod ApartLaws
 pub mod ChangeLaws
 pub mod Common
 pub mod CopiedLaws
+pub mod CountLaws
 pub mod CountRows
 pub mod DumpLaws
 pub mod DumpRows

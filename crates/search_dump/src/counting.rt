@@ -10,13 +10,14 @@ ghost use Rattle.text_index.specs.Parts.{part_of};
 
 use itoa::Buffer;
 use std::alloc::{AllocError, Global};
-use tcl_words::push_element;
+use tcl_words::push_space;
 use text_index::View;
 use text_model::TextStore;
 
 /// What `count` counts: characters, which are what indices count too, or lines.
-#[derive(Clone, Copy, Debug, PartialEq, Eq)]
+#[derive(Clone, Copy, Debug, Default, PartialEq, Eq)]
 pub enum Counted {
+    #[default]
     Characters,
     Lines,
 }
@@ -33,45 +34,39 @@ fn number_at<S: TextStore>(view: &View<'_, S>, counted: Counted, place: usize) -
 }
 
 /// Appends a number in decimals.
-fn push_number(word: &mut String, number: usize) -> Result<(), AllocError>
-    ensures ok { OnOk result (string_bytes word.new ≡ string_bytes word.old ++ decimal number) }
+fn push_number(list: &mut String, number: usize) -> Result<(), AllocError>
+    ensures ok { OnOk result (string_bytes list.new ≡ string_bytes list.old ++ decimal number) }
     ensures ascii { IsAscii (decimal number) }
 {
     let mut digits = Buffer::new();
     let digits = digits.format(number);
-    word.push_str(digits)
+    list.push_str(digits)
 }
 
-/// Writes by how much a number is above another one, whatever stood there.
-fn write_difference(word: &mut String, from: usize, to: usize) -> Result<(), AllocError>
-    ensures ok { OnOk result (string_bytes word.new ≡ difference from to) }
+/// Appends by how much a number is above another one.
+fn push_signed(list: &mut String, from: usize, to: usize) -> Result<(), AllocError>
+    ensures ok { OnOk result (string_bytes list.new ≡ string_bytes list.old ++ difference from to) }
     ensures ascii { OnOk result (IsAscii (difference from to)) }
 {
-    word.clear();
     if to < from {
-        word.push_str("-")?;
-        return push_number(word, from - to);
+        list.push_str("-")?;
+        return push_number(list, from - to);
     }
-    push_number(word, to - from)
+    push_number(list, to - from)
 }
 
-/// Appends by how much a number is above another one as an element of a list; its text is made in `word`.
-fn push_difference(
-    list: &mut String,
-    word: &mut String,
-    from: usize,
-    to: usize,
-) -> Result<(), AllocError>
+/// Appends by how much a number is above another one as an element of a list, which it is as it stands.
+fn push_difference(list: &mut String, from: usize, to: usize) -> Result<(), AllocError>
     ensures { OnOk result (Goes (string_bytes list.old) (string_bytes list.new) (difference from to ∷ [])) }
 {
-    write_difference(word, from, to)?;
-    push_element(list, word.as_str())
+    push_space(list)?;
+    push_signed(list, from, to)?;
+    Ok(())
 }
 
 /// Appends how much further one place is than another, as one option counts.
 fn push_count<S: TextStore>(
     list: &mut String,
-    word: &mut String,
     view: &View<'_, S>,
     option: Counted,
     from: usize,
@@ -84,7 +79,7 @@ fn push_count<S: TextStore>(
 {
     let first = number_at(view, option, from);
     let second = number_at(view, option, to);
-    push_difference(list, word, first, second)
+    push_difference(list, first, second)
 }
 
 /// Appends how much further one place is than another, as each of the options counts.
@@ -100,9 +95,8 @@ fn push_counts<S: TextStore>(
     ensures { OnOk result (Goes (string_bytes list.old) (string_bytes list.new)
         (map (distance (shown (part_of view.now)) from to) options.now)) }
 {
-    let mut word = String::new(*list.allocator());
     for option in options {
-        push_count(list, &mut word, view, *option, from, to)?;
+        push_count(list, view, *option, from, to)?;
     }
     Ok(())
 }

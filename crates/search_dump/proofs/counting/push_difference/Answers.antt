@@ -1,11 +1,12 @@
-use Rattle.search_dump.proofs.Common.{◌∷◌, [], ap, subst, ◌∙◌, OnOk, chars-IsAscii, difference, Goes, chars}
-use Rattle.search_dump.proofs.Common.{string_bytes}
+use Rattle.search_dump.proofs.Common.{◌++◌, ap, ◌∙◌, arith, string_bytes, difference, goes-plain}
+use Rattle.std.proofs.lemmas.Str.{encodes-IsAscii}
+use Rattle.search_dump.proofs.CountLaws.{plain-difference}
 use Rattle.search_dump.proofs.counting.push_difference.Goals as goal
 
 pub returns : goal.returns
 returns c =
-    subst (λ word. OnOk c.push_element.result
-    (Goes (string_bytes c.args.list.now) (string_bytes c.push_element.new.list) (word ∷ [])))
-    (ap chars (c.as_str.ensures.value ∙ c.in_ok-write_difference.ensures.ok)
-    ∙ chars-IsAscii (difference c.args.from c.args.to) c.in_ok-write_difference.ensures.ascii)
-    c.push_element.ensures.list
+    let number = difference c.args.from c.args.to in
+    goes-plain (string_bytes c.args.list.now) (string_bytes c.push_signed.new.list) number number
+    (encodes-IsAscii number c.in_ok-push_signed.ensures.ascii)
+    (plain-difference c.args.from c.args.to (omega arith) (omega arith))
+    (c.in_ok-push_signed.ensures.ok ∙ ap (λ bytes. bytes ++ number) c.in_ok-push_space.ensures.ok)
