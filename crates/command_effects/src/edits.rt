@@ -1,6 +1,7 @@
 //! Edits of a store that set or remove marks, and that add or remove the slots of tags.
 
-ghost use Rattle.std.specs.Prelude.{◌≡◌, ◌∷◌, ◌+◌, ◌*◌, ◌<◌, ◌≤◌, [], length, map, OnOk, OnErr, IfOk, IfErr};
+ghost use Rattle.std.specs.Prelude.{◌≡◌, ◌∷◌, ◌+◌, ◌*◌, ◌<◌, ◌≤◌, [], length, map, OnOk, OnErr, IfOk, IfErr, false};
+ghost use Rattle.std.specs.Prelude.{true};
 ghost use Rattle.std.specs.List.{All};
 ghost use Rattle.std.specs.FinMap as finite;
 ghost use Rattle.text_model.specs.Steps.{Fits, after};
@@ -74,6 +75,9 @@ pub fn put_mark<S: TextStore>(
         ≡ record (S.content store.old) { marks = finite.insert (S.content store.old).marks number.0 place }) }
     ensures err { OnErr result (S.content store.new ≡ S.content store.old) }
 {
+    if store.mark_within(number, place)? {
+        return Ok(());
+    }
     let mut steps = StepList::new(alloc);
     steps.push(Step::PutMark(number, place))?;
     make(store, Edit { steps })
@@ -121,6 +125,30 @@ pub fn prepare_drop<S: TextStore>(
     store.prepare_owned(Edit { steps })
 }
 
+/// Sets a slot on the characters of a single span that isn't empty, or takes it off them, where the store can make that
+/// in one line. Returns whether it was made; otherwise, and where an allocation fails, nothing changes.
+fn set_within<S: TextStore>(
+    store: &mut S,
+    spans: &[Span],
+    slot: TagSlot,
+    is_on: bool,
+) -> Result<bool, AllocError>
+    requires spans { All (SpanFits (length (S.content store.old).cells)) spans.now }
+    requires known { slot.0 < slot_count }
+    ensures made { IfOk result (λ is_made. is_made ≡ true →
+        S.content store.new ≡ tagged slot.0 is_on spans.now (S.content store.old)) }
+    ensures other { IfOk result (λ is_made. is_made ≡ false → S.content store.new ≡ S.content store.old) }
+    ensures refused { OnErr result (S.content store.new ≡ S.content store.old) }
+{
+    let [span] = spans else {
+        return Ok(false);
+    };
+    if span.from >= span.to {
+        return Ok(false);
+    }
+    store.tag_within(span.from, span.to, slot, is_on)
+}
+
 /// Sets a slot on spans of a text, or takes it off them.
 pub fn set_slot<S: TextStore>(
     alloc: Global,
@@ -137,6 +165,9 @@ pub fn set_slot<S: TextStore>(
     ensures anchors { text.new.anchors.items ≡ text.old.anchors.items }
     ensures fault { IfErr result (λ fault. fault ≡ Memory) }
 {
+    if set_within(&mut text.store, spans, slot, is_on)? {
+        return Ok(());
+    }
     let plan = plan_tag(alloc, text, spans, slot, is_on)?;
     commit(plan, text);
     Ok(())

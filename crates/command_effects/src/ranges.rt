@@ -7,8 +7,9 @@ ghost use Rattle.command_effects.specs.Ranges.{span, spans_of};
 use edit_ops::Span;
 use std::alloc::{AllocError, Global};
 
-/// From one place of a view that begins at an offset to another, or to the same where that one is before it.
-fn span(start: usize, from: usize, to: usize) -> Span
+/// Returns the range of a document from one place of a view that begins at an offset to another, or to the same where
+/// that one is before it. All count characters.
+pub fn span_between(start: usize, from: usize, to: usize) -> Span
     requires from { start + from ≤ usize.MAX }
     requires to { start + to ≤ usize.MAX }
     ensures { result ≡ span start from to }
@@ -34,13 +35,13 @@ pub fn spans_of(
     let mut spans = Vec::with_capacity(alloc, places.len() / 2 + 1)?;
     let mut rest = places;
     while rest.len() >= 2 {
-        spans.push(span(start, rest[0], rest[1]))?;
+        spans.push(span_between(start, rest[0], rest[1]))?;
         rest = &rest[2..];
     }
     if rest.is_empty() {
         return Ok(spans);
     }
     let from = rest[0];
-    spans.push(span(start, from, from + (len - from).min(1)))?;
+    spans.push(span_between(start, from, from + (len - from).min(1)))?;
     Ok(spans)
 }
