@@ -10,8 +10,8 @@ use crate::scenes::{limits, store_with};
 use crate::told::are;
 use edit_ops::{
     Delta, EditFault, EditRules, EditedText, Recording, SlotRun, SlottedText, Span, Target,
-    anchors_stand, commit, plan_clear, plan_delete, plan_insert, plan_redo, plan_replace, plan_tag,
-    plan_undo,
+    anchors_stand, commit, delete_within, insert_within, plan_clear, plan_delete, plan_insert,
+    plan_redo, plan_replace, plan_tag, plan_undo,
 };
 use std::alloc::{AllocError, Global};
 use std::process::Abort;
@@ -119,6 +119,36 @@ fn spans_are_removed(rt: HostRuntime) -> Result<(), Fail> {
     let limits = limits()?;
     let mut text = edited::<PlainStore>(rt.alloc())?;
     check_delete(&rt, rt.alloc(), &limits, &mut text)
+}
+
+// A text is inserted before `two` and deleted again, if the store makes such an edit at once; otherwise the text stays.
+fn check_within<S: TextStore>(
+    rt: &impl Abort,
+    alloc: Global,
+    limits: &Limits,
+    text: &mut EditedText<S>,
+    made: bool,
+) -> Result<(), Fail> {
+    let end = text.store.len();
+    assert!(rt; 4 < end && anchors_stand(&text.anchors, end));
+    let rules = EditRules {
+        alloc,
+        limits,
+        recording: RECORDING,
+        follows: false,
+    };
+    assert!(rt; insert_within(&rules, text, 4, "x ")? == made);
+    holds(rt, text, if made { "one x two\n" } else { "one two\n" })?;
+    let end = text.store.len();
+    assert!(rt; delete_within(&rules, text, end, Span { from: 4, to: 6 })? == made);
+    holds(rt, text, "one two\n")
+}
+
+#[test]
+fn a_plain_store_makes_no_edit_at_once(rt: HostRuntime) -> Result<(), Fail> {
+    let limits = limits()?;
+    let mut text = edited::<PlainStore>(rt.alloc())?;
+    check_within(&rt, rt.alloc(), &limits, &mut text, false)
 }
 
 // A text comes in the place of `one`.
