@@ -14,7 +14,7 @@ pub use Rattle.command_effects.specs.Edits.{excess, length_replaced, new_mark, w
 pub use Rattle.command_effects.specs.Faults.{at_position, edit_fault, index_fault, with_value}
 pub use Rattle.command_effects.specs.Lists.{Pair, all_names, listed_names, total, with_name, with_names}
 pub use Rattle.command_effects.specs.Marking.{IsMadeMark, is_left, marks_left, numbers_named, taken}
-pub use Rattle.command_effects.specs.Ranges.{spans_of}
+pub use Rattle.command_effects.specs.Ranges.{span, spans_of}
 pub use Rattle.command_effects.specs.Settings.{first_document_settings, history_under, is_behind, recording_of}
 pub use Rattle.command_effects.specs.Tagging.{IsFront, own_slot, piece_of, slots_deleted, slots_named, stays, tags_left}
 pub use Rattle.command_effects.specs.Tagging.{with_found}
@@ -64,7 +64,7 @@ pub use Rattle.documents.specs.Widgets.{without_selections, without_widgets}
 pub use Rattle.documents.specs.declared.mark_lists.MarkChange.{MarkChange}
 pub use Rattle.documents.specs.declared.mark_lists.MarkKey.{MarkKey}
 pub use Rattle.documents.specs.declared.mark_lists.MarkKind.{MarkKind}
-pub use Rattle.documents.specs.declared.mark_lists.MarkKind.TheVariants.{Current, Insert, Shared}
+pub use Rattle.documents.specs.declared.mark_lists.MarkKind.TheVariants.{Current, Shared}
 pub use Rattle.edit_ops.proofs.AnchoredLaws.{all-moved, all-removed, anchored-stand}
 pub use Rattle.edit_ops.proofs.KeepLaws.{deleted-kept, deleted-runs, replaced-kept, texts-kept}
 pub use Rattle.edit_ops.proofs.ReversalLaws.{back-cons, back-reverted, back-undone, group-redone-text}
@@ -139,7 +139,7 @@ pub use Rattle.std.proofs.lemmas.List.Elements.{All-replicate, All-set, All-tail
 pub use Rattle.std.proofs.lemmas.List.Folds.{find-append, flat_map-map, list_any-append}
 pub use Rattle.std.proofs.lemmas.List.Sums.{sum_by-cons}
 pub use Rattle.std.proofs.lemmas.Option.{get_or_from_slice_get, none-some, option_and_then_some, same_Some}
-pub use Rattle.std.proofs.lemmas.Option.{slice_get-map}
+pub use Rattle.std.proofs.lemmas.Option.{slice_get-get_or, slice_get-map}
 pub use Rattle.std.proofs.lemmas.Result.{IfOk-from_err, on_err_weaker, on_ok_weaker}
 pub use Rattle.std.proofs.lemmas.Slice.Eq.{bytes_eq-Decides}
 pub use Rattle.std.proofs.lemmas.Str.{IsUtf8-string_bytes, chars-nil, chars_from_encodes}
@@ -197,4 +197,4 @@ pub use Rattle.undo_stack.specs.Modified.{counted_down, counted_new, counted_up,
 pub use Rattle.undo_stack.specs.Rings.{Kept}
 pub use Rattle.undo_stack.specs.declared.actions.Action.{Action}
 pub use Rattle.undo_stack.specs.declared.actions.EditKind.{EditKind}
-pub use Rattle.undo_stack.specs.declared.actions.EditKind.TheVariants.{Delete, Replace}
+pub use Rattle.undo_stack.specs.declared.actions.EditKind.TheVariants.{Delete, Insert, Replace}

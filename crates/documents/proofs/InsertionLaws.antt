@@ -7,8 +7,7 @@ use Rattle.documents.proofs.Common.{recording_of, IsFront, piece_of, is_among, D
 use Rattle.documents.proofs.Common.{widget_at, with_texts, Stands, Change, refused, insert_at, keyed_text, tags_with}
 use Rattle.documents.proofs.Common.{within_limits, Anchors, Content, Log, state_of, take, nat_lt, if◌then◌else◌, edited}
 use Rattle.documents.proofs.Common.{Action, [], ◌∷◌, insertion, joined_text, names_of, keyed-more, IsKnownPiece}
-use Rattle.documents.proofs.Common.{known-front}
-use Rattle.undo_stack.specs.declared.actions.EditKind.TheVariants.{Insert}
+use Rattle.documents.proofs.Common.{known-front, Insert}
 use Rattle.documents.proofs.ChangeLaws.{Leaves, does-changed, table-back}
 use Rattle.documents.proofs.NamedLaws.{among-made, keyed-pieces, keyed_piece, known-pieces, total-pieces}
 use Rattle.documents.proofs.PartsLaws.{Sits, cells-kept, pairs_of}

@@ -1,8 +1,7 @@
 -- Where a text is inserted for an index.
-use Rattle.documents.proofs.Common.{◌≡◌, ℕ, ◌+◌, ◌-◌, ◌||◌, ◌==◌, min, Bool, true, false, get_or, sym, ap}
-use Rattle.documents.proofs.Common.{ap₂, ◌∙◌, Option, Some, None, Result, Ok, Err, if◌then◌else◌}
-use Rattle.documents.proofs.Common.{Fault, Memory, Gives, Content, Document, Widget, Parts, widget_at}
-use Rattle.documents.proofs.Common.{is_idle, insertion_offset, with_value}
+use Rattle.documents.proofs.Common.{◌≡◌, ℕ, ◌+◌, ◌-◌, ◌||◌, ◌==◌, min, Bool, true, false, get_or, sym, ap, ap₂, ◌∙◌}
+use Rattle.documents.proofs.Common.{Option, Some, None, Result, Ok, Err, if◌then◌else◌, Fault, Memory, Gives, Content}
+use Rattle.documents.proofs.Common.{Document, Widget, Parts, widget_at, is_idle, insertion_offset, with_value}
 use Rattle.documents.proofs.ReplacementLaws.{cut-at}
 use Rattle.documents.proofs.ViewLaws.{IsSeen, active-found, idle-is}
 

@@ -42,6 +42,7 @@ pub mod ReversalLaws
 pub mod SeatLaws
 pub mod SeatedLaws
 pub mod SeenLaws
+pub mod SetMarkLaws
 pub mod SettledLaws
 pub mod SettledMarksLaws
 pub mod SpanLaws
@@ -62,3 +63,4 @@ pub mod ViewLaws
 pub mod WellFormedLaws
 pub mod WidgetLaws
 pub mod WidgetLeadLaws
+pub mod WithinLaws

@@ -2,7 +2,8 @@
 use Rattle.documents.proofs.Common.{◌≡◌, ℕ, ◌+◌, ◌*◌, List, None, Some, option_map, find, sym, ap, ◌∙◌, inl, inr}
 use Rattle.documents.proofs.Common.{none-some, same_Some, number_of, Marks, is_same, Document, Parts, SharedMark}
 use Rattle.documents.proofs.Common.{Widget, placed, widget_at, widget_named, Stands, mark_at, place_of_kind, MarkKey}
-use Rattle.documents.proofs.Common.{Insert, Current, Shared}
+use Rattle.documents.proofs.Common.{Current, Shared}
+use Rattle.documents.specs.declared.mark_lists.MarkKind.TheVariants.{Insert}
 use Rattle.documents.proofs.MeaningLaws.{current-is, insert-is}
 use Rattle.documents.proofs.PartsLaws.{Sits}
 use Rattle.documents.proofs.PlacedLaws.{found_mark, marked-there, there_is}

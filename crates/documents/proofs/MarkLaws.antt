@@ -481,6 +481,44 @@ leaves-turned limits old new changed document word number place stands within kn
           record old { marks = sym table i; content = sym is i }) left
     ]
 
+-- a mark that keeps its gravity leaves the table as it is
+turned-same : (places : Marks) (word : List ℕ) (number : ℕ) (place : Place) (marks : List Mark) →
+    HaveNumber word number marks → AllByRecursion (IsMarked places) marks
+    → finite.get places number ≡ Some place → turned word place.gravity marks ≡ marks
+turned-same places word number place [] have each stored = refl
+turned-same places word number place (mark ∷ marks) have each stored =
+    ap₂ (λ (first : Mark) others. first ∷ others)
+    (elim (is_named word mark) as (λ b. is_named word mark ≡ b →
+    (if b then record mark { gravity = place.gravity } else mark) ≡ mark) [
+      | true ↦ λ same.
+          let one = ap (λ n. option_map (λ (p : Place). p.gravity) (finite.get places n)) ((have 0 mark refl).same same) in
+          let kept = same_Some place.gravity mark.gravity (sym (ap (option_map (λ (p : Place). p.gravity)) stored)
+          ∙ sym one ∙ each.0.stands) in
+          λ i. record mark { gravity = kept i }
+      | false ↦ λ _. refl
+    ] refl)
+    (turned-same places word number place marks (λ at. have (suc at)) each.1 stored)
+
+pub leaves-moved : (limits : LimitTable) (old : Parts) (changed : Content) (document : Document) (word : List ℕ)
+    (number offset : ℕ) (found : Place) → Stands old document → offset ≤ length old.content.cells
+    → number_of word old.marks.marks ≡ Some number → finite.get old.content.marks number ≡ Some found
+    → changed ≡ put_in number (record found { offset = offset }) old.content
+    → Leaves limits (record old { content = changed }) document (Ok Empty)
+    (answered (with_shared document word (record found { offset = offset })) Empty)
+leaves-moved limits old changed document word number offset found stands within known stored is =
+    let marks = old.marks.marks in
+    let marked = stands.sound.marked in
+    elim (found_mark old.content.marks word marks 0 marked.each) [
+      | inl none ↦ absurd (none-some number (sym none.0 ∙ known))
+      | inr there ↦
+          let one : there.mark.number ≡ number = same_Some there.mark.number number (sym there.number ∙ known) in
+          let have : HaveNumber word number marks = subst (λ n. HaveNumber word n marks) one
+          (have-number old.content.marks word old.marks marked.marks there) in
+          let same = turned-same old.content.marks word number found marks have marked.each stored in
+          leaves-turned limits old old.marks changed document word number (record found { offset = offset }) stands
+          within known marked.marks (λ i. record old.marks { marks = sym same i }) is
+    ]
+
 each-append : (P : Mark → Type 0) (marks : List Mark) (mark : Mark) → AllByRecursion P marks → P mark →
     AllByRecursion P (marks ++ mark ∷ [])
 each-append P [] mark each this = (this, tt)

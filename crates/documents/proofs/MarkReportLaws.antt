@@ -7,8 +7,8 @@ use Rattle.documents.proofs.Common.{TooManyMarks, Settings, is_same, literal, Do
 use Rattle.documents.proofs.Common.{set_found, with_current, with_insert, with_mark, with_shared, answered, refused}
 use Rattle.documents.proofs.Common.{IsPlaced, IsWellFormedDocument, new_widget, with_peer, shared_key, AreOthers}
 use Rattle.documents.proofs.Common.{AreWatched, HasMarksBut, mark_at, mark_key, mark_keys, own_keys, watched}
-use Rattle.documents.proofs.Common.{MarkChange, MarkKey, MarkKind, Insert, Current, Shared, flat_map, same-word}
-use Rattle.documents.proofs.Common.{words-are}
+use Rattle.documents.proofs.Common.{MarkChange, MarkKey, MarkKind, Current, Shared, flat_map, same-word, words-are}
+use Rattle.documents.specs.declared.mark_lists.MarkKind.TheVariants.{Insert}
 use Rattle.documents.proofs.MarksToldLaws.{made_mark, made-other, shared-other, sought}
 use Rattle.std.specs.List.{IsDistinct}
 

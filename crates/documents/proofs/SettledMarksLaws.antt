@@ -7,8 +7,9 @@ use Rattle.documents.proofs.Common.{length-drop, length-map, length-take, Place,
 use Rattle.documents.proofs.Common.{is_same, Tells, drawn, goes_behind, moved, ◌^◌, AreFalling, after_change}
 use Rattle.documents.proofs.Common.{TextChange, IsSettled, all_carried_within, carried_within, mark_taken, AreCarried}
 use Rattle.documents.proofs.Common.{AreOthers, AreSingle, AreWatched, IsMarkChange, TellsMarks, carried, carried_all}
-use Rattle.documents.proofs.Common.{mark_at, mark_carried, watched, MarkChange, MarkKey, MarkKind, Insert, Current}
-use Rattle.documents.proofs.Common.{Shared, same-word, words-are}
+use Rattle.documents.proofs.Common.{mark_at, mark_carried, watched, MarkChange, MarkKey, MarkKind, Current, Shared}
+use Rattle.documents.proofs.Common.{same-word, words-are}
+use Rattle.documents.specs.declared.mark_lists.MarkKind.TheVariants.{Insert}
 use Rattle.std.specs.List.Retain.{RetainsInTurn}
 
 -- ---- how long a text is between falling changes

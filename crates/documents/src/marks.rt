@@ -26,7 +26,8 @@ use command_effects::{
 };
 use mark_table::{Origin, WidgetMark};
 use std::alloc::AllocError;
-use text_model::{Gravity, Limits, MarkNo, Place, Text, TextStore};
+use text_index::Names;
+use text_model::{Gravity, Limits, MarkNo, Place, TagSlot, Text, TextStore};
 
 /// From where a mark is asked for, counted from the start of the text: a place of a view moves by the view's start.
 fn origin_in(start: usize, origin: Origin) -> Origin
@@ -241,7 +242,7 @@ impl<S: TextStore> Document<S> {
     }
 
     /// Makes a shared mark at an offset, with right gravity, unless there are too many.
-    pub fn make_mark(
+    fn make_mark(
         &mut self,
         limits: &Limits,
         seat: usize,
@@ -265,6 +266,44 @@ impl<S: TextStore> Document<S> {
             offset,
         )?;
         Ok(Answer::Empty)
+    }
+
+    /// Moves the mark of a name to an offset, where it keeps its gravity. If there is none, makes a shared mark with
+    /// right gravity, unless there are too many. The name is looked up once.
+    pub fn set_mark(
+        &mut self,
+        limits: &Limits,
+        seat: usize,
+        name: &str,
+        offset: usize,
+    ) -> Result<Answer, Fault>
+        requires shown { seat < length self.old.widgets }
+        requires within { offset ≤ length self.old.cells }
+        ensures { Does limits.now self.old self.new result
+            (set_found limits.now self.old (widget_at self.old seat) (chars name.now) offset
+            (place_named self.old (widget_at self.old seat) (chars name.now))) }
+    {
+        let names = Names {
+            tags: &self.tags,
+            marks: &self.marks,
+            widget: TagSlot(self.seats.number(seat)),
+        };
+        let Some(number) = names.mark(name) else {
+            return self.make_mark(limits, seat, name, offset);
+        };
+        let Some(old) = self.text.store.mark_place(number) else {
+            unreachable!()
+        };
+        let gravity = old.gravity;
+        match put_mark(
+            self.alloc,
+            &mut self.text.store,
+            number,
+            Place { offset, gravity },
+        ) {
+            Err(_) => Err(Fault::Memory),
+            Ok(()) => Ok(Answer::Empty),
+        }
     }
 
     /// Takes the shared marks of these names out. The widget's own and unknown names are skipped.

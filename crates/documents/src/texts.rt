@@ -1,6 +1,8 @@
 //! Reads the text of a widget's view, and inserts texts with tag lists.
 
-ghost use Rattle.std.specs.Prelude.{◌≡◌, ◌<◌, ◌≤◌, suc, length, chars, slice_range, IfOk, IfSome};
+ghost use Rattle.std.specs.Prelude.{◌≡◌, ◌∷◌, ◌<◌, ◌≤◌, [], None, Ok, true, false, suc, length, chars, slice_range};
+ghost use Rattle.std.specs.Prelude.{IfOk, IfSome, OnErr};
+ghost use Rattle.command_effects.specs.declared.answers.Answer.TheVariants.{Empty};
 ghost use Rattle.documents.specs.Documents.{widget_at};
 ghost use Rattle.documents.specs.Promise.{Does, Gives};
 ghost use Rattle.documents.specs.Texts.{insert_at, insertion_at};
@@ -11,6 +13,7 @@ use crate::callers::Caller;
 use crate::documents::Document;
 use crate::views::view_of;
 use command_effects::{Fault, Pair, plan_pairs};
+use edit_ops::insert_within;
 use reports::{EditTold, carry_out_tagged};
 use std::alloc::AllocError;
 use text_model::{TagSlot, Text, TextStore};
@@ -90,5 +93,60 @@ impl<S: TextStore> Document<S> {
             &mut self.text,
             planned,
         )
+    }
+    /// Inserts a text at an offset where the store can make that in one line. Returns whether it was made; otherwise,
+    /// and where an allocation fails, the document is as it was.
+    fn insert_piece(
+        &mut self,
+        caller: &Caller<'_>,
+        at: usize,
+        text: &str,
+    ) -> Result<bool, AllocError>
+        requires shown { caller.now.seat < length self.old.widgets }
+        requires within { at < length self.old.cells }
+        ensures made { IfOk result (λ is_made. is_made ≡ true →
+            Does caller.now.limits.now self.old self.new (Ok Empty)
+            (insert_at caller.now.limits.now self.old (widget_at self.old caller.now.seat) at
+            (record { text = chars text.now; names = None } ∷ []))) }
+        ensures quiet { IfOk result (λ is_made. is_made ≡ true → caller.now.follows ≡ false) }
+        ensures other { IfOk result (λ is_made. is_made ≡ false → self.new ≡ self.old) }
+        ensures refused { OnErr result (self.new ≡ self.old) }
+    {
+        if self.tags.len() > caller.limits.tags() as usize + 1 {
+            return Ok(false);
+        }
+        let rules = caller.rules(self.alloc, self.settings);
+        if !insert_within(&rules, &mut self.text, at, text)? {
+            return Ok(false);
+        }
+        Ok(true)
+    }
+
+    /// Inserts a text at an offset, in characters, as `insert_at` does for a text without a tag list. Returns what that
+    /// changes.
+    pub fn insert_text(
+        &mut self,
+        caller: &Caller<'_>,
+        at: usize,
+        text: &str,
+    ) -> Result<EditTold, Fault>
+        requires shown { caller.now.seat < length self.old.widgets }
+        requires within { at < length self.old.cells }
+        ensures does { Does caller.now.limits.now self.old self.new (reply_of result)
+            (insert_at caller.now.limits.now self.old (widget_at self.old caller.now.seat) at
+            (record { text = chars text.now; names = None } ∷ [])) }
+        ensures told { IsTold caller.now.follows
+            (insert_at caller.now.limits.now self.old (widget_at self.old caller.now.seat) at
+            (record { text = chars text.now; names = None } ∷ [])) self.old self.new result }
+    {
+        if self.insert_piece(caller, at, text)? {
+            return Ok(EditTold::nothing(self.alloc));
+        }
+        let pair = Pair {
+            text: Text::new(String::from_str(self.alloc, text)?),
+            names: None,
+        };
+        let pairs = vec![in self.alloc; pair]?;
+        self.insert_at(caller, at, pairs)
     }
 }

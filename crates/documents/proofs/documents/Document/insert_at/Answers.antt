@@ -1,6 +1,5 @@
 use Rattle.documents.proofs.Common.{ap, ◌∙◌, map, inserted_texts, log_of, state_of, piece_of, widget_at, parts_of}
-use Rattle.documents.proofs.Common.{insert_at}
-use Rattle.undo_stack.specs.declared.actions.EditKind.TheVariants.{Insert}
+use Rattle.documents.proofs.Common.{insert_at, Insert}
 use Rattle.documents.proofs.InsertionLaws.{leaves-put, put-left, with_tags}
 use Rattle.documents.proofs.PartsLaws.{sits, stand}
 use Rattle.documents.proofs.PlannedLaws.{insertion-edits}

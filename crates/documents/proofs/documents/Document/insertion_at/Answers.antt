@@ -1,6 +1,6 @@
 use Rattle.documents.proofs.Common.{◌==◌, eq-eqb, nat_tests, arith, ◌≡◌, Bool, true, false, get_or, Ok, Some, ◌∙◌, sym}
-use Rattle.documents.proofs.Common.{ap, subst, chars, widget_at, parts_of, is_idle, Gives, with_value}
-use Rattle.documents.proofs.Common.{place_at, insertion_at, Stands}
+use Rattle.documents.proofs.Common.{ap, subst, chars, widget_at, parts_of, is_idle, Gives, with_value, place_at}
+use Rattle.documents.proofs.Common.{insertion_at, Stands}
 use Rattle.documents.proofs.InsertionPlaceLaws.{at_place, gives-with, idle-found, none-inserted, some-inserted}
 use Rattle.documents.proofs.PartsLaws.{sits, stand}
 use Rattle.documents.proofs.ViewLaws.{IsSeen, flag-at, see-part, view-there}
