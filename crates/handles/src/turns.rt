@@ -82,6 +82,7 @@ impl Session {
 
     /// Carries out the command of some words, and keeps its report where that is wanted, with its marks where these
     /// are too.
+    #[inline(always)]
     fn call(&mut self, tells: bool, marks: bool, words: Vec<String>) -> Given
         requires { 0 < vec_len words }
         ensures plain { tells ≡ false → Gives (state_of self.old) (texts_of words.items) (state_of self.new) result }

@@ -228,6 +228,7 @@ impl<S: TextStore> World<S> {
 
     /// A command of a widget of the document at a place. Where the caller follows the text, it reports what it changed
     /// of that.
+    #[inline(always)]
     fn on_seat(
         &mut self,
         place: usize,
@@ -371,6 +372,7 @@ impl<S: TextStore> World<S> {
     }
 
     /// Carries out a command of one word or more. It reports what it changed of what the caller follows.
+    #[inline(always)]
     fn carry_out(&mut self, words: &[String], follows: Follows) -> Result<Told, Fault>
         requires { 0 < length words.now }
         ensures makes { Makes self.old self.new (answer_of result) (step self.old (texts_of words.now)) }
