@@ -87,7 +87,7 @@ pub use Rattle.peers.specs.Step.{Makes, Outcome, are_frugal, changed, create, cr
 pub use Rattle.peers.specs.Step.{create_with, destroy, destroy_shaped, has_widgets, on_found, on_home, on_widget}
 pub use Rattle.peers.specs.Step.{refuses, seat_step, step}
 pub use Rattle.peers.specs.Tags.{add_words, remove_words, tag_add, tag_lower, tag_raise, tag_remove}
-pub use Rattle.peers.specs.Texts.{got, insert, insert_pairs, insert_words, text_of, texts_of_places}
+pub use Rattle.peers.specs.Texts.{got, insert, insert_pairs, insert_words, inserted_at, text_of, texts_of_places}
 pub use Rattle.peers.specs.Told.{AreTold, TellsAt, TellsOf, answer_of, edited, no_edit}
 pub use Rattle.peers.specs.WellFormed.{IsWellFormed}
 pub use Rattle.peers.specs.Widgets.{peer_create, peer_settings, peer_with, peer_words}

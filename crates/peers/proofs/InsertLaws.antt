@@ -3,11 +3,9 @@ use Rattle.peers.proofs.Common.{Result, Answer, Fault, Does, Memory, ◌≢◌, 
 use Rattle.peers.proofs.Common.{ℕ, ◌+◌, List, Option, None, Some, Ok, Err, refl, if◌then◌else◌, Change, answered}
 use Rattle.peers.proofs.Common.{change_with, Document, Widget, LimitTable, is_idle, insert_at, insertion_offset}
 use Rattle.peers.proofs.Common.{place_at, insert_pairs, insert_words, pairs_at, with_value, Pair, Empty, insertion_at}
+use Rattle.peers.proofs.Common.{inserted_at, ◌≤◌, ◌<◌, [], ◌∷◌, length, get_or, ap, ◌∙◌, arith, chars, texts_of, String}
+use Rattle.peers.proofs.Common.{string_bytes}
 use Rattle.peers.proofs.PromiseLaws.{does-found, does-refused, does-same}
-
-abbrev pub inserted_at : LimitTable → Document → Widget → Option ℕ → List Pair → Change
-inserted_at limits document widget None pairs = answered document Empty
-inserted_at limits document widget (Some offset) pairs = insert_at limits document widget offset pairs
 
 pub inserts-at : (limits : LimitTable) (document : Document) (widget : Widget) (position : ℕ)
     (given : List ℕ × List (List ℕ)) → insert_words limits document widget position given
@@ -67,6 +65,23 @@ module _ (limits : LimitTable) (old : Document) (widget : Widget) (position : �
     inserted pairs read does =
         inserting (does-found place at change there
         (does-found given pairs (inserted_at limits old widget at) read does))
+
+    -- and that is the whole of it
+    pub insert-is : (pairs : List Pair) → given ≡ Ok pairs
+        → insert limits old widget position words ≡ inserted_at limits old widget at pairs
+    insert-is pairs read =
+        ap (λ parts. change_with old parts (insert_words limits old widget position)) is
+        ∙ inserts-at limits old widget position (index, rest)
+        ∙ ap (λ found. change_with old found change) there
+        ∙ ap (λ read. change_with old read (inserted_at limits old widget at)) read
+
+-- a single word is a text without a tag list
+pub one-text : {Z : Type 0} (words : List (String Z)) (word : String Z) (bytes : List ℕ) → 1 ≤ length words →
+    length words < 2 → word ≡ get_or words 0 word → bytes ≡ string_bytes word → texts_of words ≡ chars bytes ∷ []
+one-text [] word bytes some few is bytes_are = absurd (omega (arith, some))
+one-text (first ∷ []) word bytes some few is bytes_are =
+    ap (λ bs. chars bs ∷ []) (sym (bytes_are ∙ ap string_bytes is))
+one-text (first ∷ next ∷ words) word bytes some few is bytes_are = absurd (omega (arith, few))
 
 -- nothing is inserted
 pub inserted-nothing : (limits : LimitTable) (document : Document)

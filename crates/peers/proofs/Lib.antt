@@ -1,5 +1,7 @@
 pub mod ArgumentLaws
 pub mod Common
+pub mod CompareLaws
+pub mod CountLaws
 pub mod DoneLaws
 pub mod DroppedLaws
 pub mod FollowLaws

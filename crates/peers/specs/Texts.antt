@@ -1,20 +1,26 @@
 -- Commands on texts: `insert` and `get`.
-use Rattle.std.specs.Prelude.{ℕ, suc, ◌+◌, List, [], ◌∷◌, filter, slice_range, Result, Ok}
+use Rattle.std.specs.Prelude.{ℕ, suc, ◌+◌, List, [], ◌∷◌, filter, slice_range, Option, None}
+use Rattle.std.specs.Prelude.{Some, Result, Ok}
 use Rattle.text_model.specs.LimitTable.{LimitTable}
 use Rattle.tcl_words.specs.ListText.{list_text}
 use Rattle.command_effects.specs.declared.answers.Answer.{Answer}
-use Rattle.command_effects.specs.declared.answers.Answer.TheVariants.{Text}
+use Rattle.command_effects.specs.declared.answers.Answer.TheVariants.{Empty, Text}
 use Rattle.command_effects.specs.declared.answers.Fault.{Fault}
 use Rattle.peers.specs.Arguments.{one_or_more_of}
 use Rattle.command_effects.specs.Faults.{with_value}
 use Rattle.documents.specs.Indices.{place_at}
 use Rattle.command_effects.specs.Lists.{Pair, pairs_at}
-use Rattle.documents.specs.Promise.{Change, change_with, unless_idle}
+use Rattle.documents.specs.Promise.{Change, answered, change_with, unless_idle}
 use Rattle.peers.specs.Ranges.{places_at}
 use Rattle.documents.specs.Views.{shown}
 use Rattle.documents.specs.Documents.{Document, Widget}
 use Rattle.documents.specs.Listing.{is_filled}
 use Rattle.documents.specs.Texts.{insert_at, insertion_offset}
+
+-- texts are inserted at an offset, if there is one
+abbrev pub inserted_at : LimitTable → Document → Widget → Option ℕ → List Pair → Change
+inserted_at limits document widget None pairs = answered document Empty
+inserted_at limits document widget (Some offset) pairs = insert_at limits document widget offset pairs
 
 abbrev pub insert_pairs : LimitTable → Document → Widget → Result (List Pair) Fault → ℕ → Change
 insert_pairs limits document widget pairs place =

@@ -28,6 +28,7 @@ use documents::Document;
 use text_model::TextStore;
 
 /// A command of a widget that edits neither the text nor its tags, but `peer create`.
+#[inline(always)]
 fn answer<S: TextStore>(
     document: &mut Document<S>,
     command: Command,
@@ -74,6 +75,7 @@ fn answer<S: TextStore>(
 }
 
 /// A command of a widget but `peer create`. Returns its answer and its report.
+#[inline(always)]
 pub fn carry_out<S: TextStore>(
     document: &mut Document<S>,
     command: Command,

@@ -34,13 +34,7 @@ pub fn mark_set<S: TextStore>(
     let seat = request.caller.seat;
     let place = document.seek(seat, request.position + 1, word)?;
     let offset = document.mark_offset(seat, name, place);
-    match document.place_named(seat, name) {
-        None => document.make_mark(request.caller.limits, seat, name, offset),
-        Some(old) => {
-            let gravity = old.gravity;
-            document.put_mark(seat, name, Place { offset, gravity })
-        }
-    }
+    document.set_mark(request.caller.limits, seat, name, offset)
 }
 
 /// `W mark gravity M ?left or right?` (text(n), "mark gravity").

@@ -15,6 +15,7 @@ use command_effects::{Answer, Fault, is_word};
 use command_table::abbreviates;
 use documents::Document;
 use search_dump::{Counted, Listed, SearchSwitches, Wanted};
+use smallvec::SmallVec;
 use std::alloc::{AllocError, Global};
 use text_index::Direction;
 use text_model::TextStore;
@@ -90,10 +91,11 @@ fn counted_as(word: &str) -> Counted
     }
 }
 
-fn counted_options(alloc: Global, words: &[String]) -> Result<Vec<Counted>, AllocError>
+/// Returns what options count. One is kept without an allocation.
+fn counted_options(alloc: Global, words: &[String]) -> Result<SmallVec<Counted, 1>, AllocError>
     ensures { IfOk result (λ options. options.items ≡ map counted_as (texts_of words.now)) }
 {
-    let mut options = Vec::with_capacity(alloc, words.len())?;
+    let mut options = SmallVec::with_capacity(alloc, words.len())?;
     for word in words {
         options.push(counted_as(word.as_str()))?;
     }
@@ -148,17 +150,21 @@ pub fn search<S: TextStore>(document: &Document<S>, request: &Request<'_>) -> Re
 }
 
 /// `W count ?option ..? A B` (text(n), "count").
-pub fn count<S: TextStore>(document: &Document<S>, request: &Request<'_>) -> Result<Answer, Fault>
-    requires shown { request.now.caller.seat < length document.now.widgets }
-    ensures { Gives result
-        (count document.now (widget_of document.now request.now) (texts_of request.now.switches.now)
+pub fn count<S: TextStore>(
+    document: &mut Document<S>,
+    request: &Request<'_>,
+) -> Result<Answer, Fault>
+    requires shown { request.now.caller.seat < length document.old.widgets }
+    ensures same { document.new ≡ document.old }
+    ensures value { Gives result
+        (count document.old (widget_of document.old request.now) (texts_of request.now.switches.now)
         request.now.position (words_of request.now)) }
 {
     let (first, second) = request.two()?;
     let options = counted_options(document.allocator(), request.switches)?;
     let seat = request.caller.seat;
-    let from = document.place_at(seat, request.position, first)?;
-    let to = document.place_at(seat, request.position + 1, second)?;
+    let from = document.seek(seat, request.position, first)?;
+    let to = document.seek(seat, request.position + 1, second)?;
     Ok(Answer::Text(document.counts_of(seat, &options, from, to)?))
 }
 

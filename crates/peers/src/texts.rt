@@ -1,6 +1,6 @@
 //! The commands `insert` and `get`.
 
-ghost use Rattle.std.specs.Prelude.{◌≡◌, ◌≤◌, length, filter, Ok, IfOk, ◌<◌};
+ghost use Rattle.std.specs.Prelude.{◌≡◌, ◌∷◌, ◌≤◌, ◌<◌, [], None, Ok, chars, length, filter, IfOk, IfSome};
 ghost use Rattle.tcl_words.specs.ListText.{list_text};
 ghost use Rattle.std.specs.List.{All};
 ghost use Rattle.documents.specs.Documents.{widget_at};
@@ -8,7 +8,7 @@ ghost use Rattle.documents.specs.Views.{shown};
 ghost use Rattle.documents.specs.Promise.{Gives, Does};
 ghost use Rattle.documents.specs.Told.{reply_of, IsTold};
 ghost use Rattle.peers.specs.Requests.{widget_of, words_of};
-ghost use Rattle.peers.specs.Texts.{insert, texts_of_places, got, get};
+ghost use Rattle.peers.specs.Texts.{insert, inserted_at, texts_of_places, got, get};
 ghost use Rattle.documents.specs.Listing.{is_filled};
 
 use crate::ranges::places_at;
@@ -17,6 +17,29 @@ use command_effects::{Answer, Fault, pairs_at};
 use documents::{Document, EditTold, push_filled};
 use std::alloc::AllocError;
 use text_model::{Text, TextStore};
+
+/// Inserts a text without a tag list at an offset of the document, in characters, if there is one. Returns what that
+/// changes.
+fn insert_word<S: TextStore>(
+    document: &mut Document<S>,
+    request: &Request<'_>,
+    at: Option<usize>,
+    text: &str,
+) -> Result<EditTold, Fault>
+    requires shown { request.now.caller.seat < length document.old.widgets }
+    requires within { IfSome at (λ at. at < length document.old.cells) }
+    ensures does { Does request.now.caller.limits.now document.old document.new (reply_of result)
+        (inserted_at request.now.caller.limits.now document.old (widget_of document.old request.now) at
+        (record { text = chars text.now; names = None } ∷ [])) }
+    ensures told { IsTold request.now.caller.follows
+        (inserted_at request.now.caller.limits.now document.old (widget_of document.old request.now) at
+        (record { text = chars text.now; names = None } ∷ [])) document.old document.new result }
+{
+    match at {
+        Some(offset) => document.insert_text(&request.caller, offset, text),
+        None => Ok(EditTold::nothing(document.allocator())),
+    }
+}
 
 /// `W insert I chars ?tagList chars ..?` (text(n), "insert"): inserts texts at a place, or just before the last newline
 /// where that is the end, unless the widget is disabled. Returns what that changes.
@@ -34,6 +57,9 @@ pub fn insert<S: TextStore>(
 {
     let (index, words) = request.one_or_more()?;
     let at = document.insertion_at(request.caller.seat, request.position, index)?;
+    if let [word] = words {
+        return insert_word(document, request, at, word.as_str());
+    }
     let pairs = pairs_at(document.allocator(), request.position + 1, words)?;
     match at {
         Some(offset) => document.insert_at(&request.caller, offset, pairs),
