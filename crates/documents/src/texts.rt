@@ -94,6 +94,7 @@ impl<S: TextStore> Document<S> {
             planned,
         )
     }
+
     /// Inserts a text at an offset where the store can make that in one line. Returns whether it was made; otherwise,
     /// and where an allocation fails, the document is as it was.
     fn insert_piece(
