@@ -63,6 +63,17 @@ within-line m p n new gone more puts =
 within-part : (a b c d : Count) → IsWithin a c → IsWithin a (plus b (plus c d))
 within-part a b c d within = within-rest a b (plus c d) (within-both a c (plus c d) within (within-first c d))
 
+-- counts that are called otherwise
+pub counted-so : (m n : Records) (p : NodePtr) (new : LineContent) (gone more went came : Count) → went ≡ gone →
+    came ≡ more → PutsOver m n p new gone more → PutsOver m n p new went came
+counted-so m n p new gone more went came is is_too puts = record {
+  line = puts.line;
+  was = puts.was;
+  same = puts.same;
+  went = is ∙ puts.went;
+  came = is_too ∙ puts.came;
+}
+
 -- ---- above it
 -- line k below p can be another, and is counted then
 abbrev pub CanReplace : Records → LineContent → ℕ → NodePtr → ℕ → Type 0

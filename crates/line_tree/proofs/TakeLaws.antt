@@ -38,7 +38,7 @@ changed-is ls k l f at =
     ∙ append_assoc (take k ls) ((l.0, f l.1) ∷ []) (drop (suc k) ls)
 
 -- ---- the lines
-no-mark : (n : ℕ) (line : LineContent) → has_mark n line ≡ false → without_mark n line ≡ line
+pub no-mark : (n : ℕ) (line : LineContent) → has_mark n line ≡ false → without_mark n line ≡ line
 no-mark n line hasn't =
     elim (finite.get line.marks n) as (λ o. finite.get line.marks n ≡ o → without_mark n line ≡ line) [
       | None ↦ λ free. same-line n line free

@@ -6,7 +6,7 @@ ghost use Rattle.raw_nodes.specs.Names.{records, rooms, spares};
 ghost use Rattle.raw_nodes.specs.Rows.{kids, row};
 ghost use Rattle.raw_nodes.specs.Records.{Records};
 ghost use Rattle.segments.specs.Columns.{LineContent, line_count};
-ghost use Rattle.toggle_sums.specs.Counts.{Count, IsWithin, plus};
+ghost use Rattle.toggle_sums.specs.Counts.{Count, IsWithin, no_text, plus};
 ghost use Rattle.line_tree.specs.Changes.{Distinct, FitsSum, resummed, sums};
 ghost use Rattle.line_tree.specs.Finds.{HasRow};
 ghost use Rattle.line_tree.specs.Places.{IsLineAt};
@@ -19,21 +19,27 @@ use crate::fill::resum;
 use raw_nodes::{NodePtr, NodeStore, Ticks};
 use segments::{Line, LineEdit};
 use std::alloc::AllocError;
-use toggle_sums::Exchange;
+use text_model::WORDS;
+use toggle_sums::{Exchange, Summary, Sums};
 
 /// Puts a line in the place of another, under its name, and says what went and what came.
-fn put_over<C: Ticks>(store: &mut NodeStore<C>, name: NodePtr, line: Line, exchange: &mut Exchange)
+fn put_over<C: Ticks>(
+    store: &mut NodeStore<C>,
+    name: NodePtr,
+    line: Line,
+    gone: &mut Sums<WORDS>,
+    more: &mut Sums<WORDS>,
+)
     requires line { IsTree (records store.old) 0 name }
-    ensures puts { PutsOver (records store.old) (records store.new) name line exchange.new.gone exchange.new.more }
+    requires empty { (gone.old ≡ no_text) × (more.old ≡ no_text) }
+    ensures puts { PutsOver (records store.old) (records store.new) name line gone.new more.new }
     ensures spares { spares store.new ≡ spares store.old }
     ensures rooms { rooms store.new ≡ rooms store.old }
 {
-    exchange.open();
-    line.sum_to(&mut exchange.more);
+    line.sum_to(more);
     let place = store.line_mut(name).unwrap();
-    place.sum_to(&mut exchange.gone);
+    place.sum_to(gone);
     *place = line;
-    exchange.compare();
 }
 
 /// Makes an edit of a line where it lies, and says what went and what came.
@@ -41,23 +47,23 @@ fn edit_over<C: Ticks, E: LineEdit>(
     store: &mut NodeStore<C>,
     name: NodePtr,
     edit: &E,
-    exchange: &mut Exchange,
+    gone: &mut Sums<WORDS>,
+    more: &mut Sums<WORDS>,
 ) -> Result<(), AllocError>
     requires line { IsTree (records store.old) 0 name }
     requires fits { IfSome (line_of (finite.get (records store.old) name)) (E.fits edit.now) }
+    requires empty { (gone.old ≡ no_text) × (more.old ≡ no_text) }
     ensures edits { OnOk result (EditsOver (records store.old) (records store.new) name (E.edited edit.now)
-        exchange.new.gone exchange.new.more) }
+        gone.new more.new) }
     ensures refused { OnErr result (records store.new ≡ records store.old) }
     ensures spares { spares store.new ≡ spares store.old }
     ensures rooms { rooms store.new ≡ rooms store.old }
 {
-    exchange.open();
     let line = store.line_mut(name).unwrap();
-    line.sum_to(&mut exchange.gone);
+    line.sum_to(gone);
     edit.make(line)?;
     line.trim();
-    line.sum_to(&mut exchange.more);
-    exchange.compare();
+    line.sum_to(more);
     Ok(())
 }
 
@@ -66,15 +72,15 @@ fn edit_over<C: Ticks, E: LineEdit>(
 fn exchange_sum<C: Ticks>(
     store: &mut NodeStore<C>,
     node: NodePtr,
-    exchange: &Exchange,
+    exchange: &Exchange<'_>,
     ticks: &mut C,
 )
     requires row { HasRow (records store.old) node }
-    requires sum { plus (sums (records store.old) (row (kids (records store.old) node))) exchange.now.gone
-        ≡ plus (sum_at (records store.old) node) exchange.now.more }
-    requires came { IsWithin exchange.now.more (sums (records store.old) (row (kids (records store.old) node))) }
-    requires went { IsWithin exchange.now.gone (sum_at (records store.old) node) }
-    requires fits { FitsSum (plus (sum_at (records store.old) node) exchange.now.more) }
+    requires sum { plus (sums (records store.old) (row (kids (records store.old) node))) exchange.now.gone.now
+        ≡ plus (sum_at (records store.old) node) exchange.now.more.now }
+    requires came { IsWithin exchange.now.more.now (sums (records store.old) (row (kids (records store.old) node))) }
+    requires went { IsWithin exchange.now.gone.now (sum_at (records store.old) node) }
+    requires fits { FitsSum (plus (sum_at (records store.old) node) exchange.now.more.now) }
     ensures records { records store.new ≡ resummed (records store.old) node (row (kids (records store.old) node)) }
     ensures spares { spares store.new ≡ spares store.old }
     ensures rooms { rooms store.new ≡ rooms store.old }
@@ -92,14 +98,14 @@ fn exchange_up<C: Ticks>(
     root: NodePtr,
     height: usize,
     name: NodePtr,
-    exchange: &Exchange,
+    exchange: &Exchange<'_>,
     ticks: &mut C,
 )
     requires stale { (m : Records) × (new : LineContent)
-        × IsStale m new (records store.old) height root name exchange.now.gone exchange.now.more }
+        × IsStale m new (records store.old) height root name exchange.now.gone.now exchange.now.more.now }
     ensures changes { (m : Records) (new : LineContent) →
-        IsStale m new (records store.old) height root name exchange.now.gone exchange.now.more →
-        ChangesNamed m (records store.new) height root name (λ _. new) exchange.now.gone (line_count new) }
+        IsStale m new (records store.old) height root name exchange.now.gone.now exchange.now.more.now →
+        ChangesNamed m (records store.new) height root name (λ _. new) exchange.now.gone.now (line_count new) }
     ensures spares { spares store.new ≡ spares store.old }
     ensures rooms { rooms store.new ≡ rooms store.old }
 {
@@ -129,8 +135,10 @@ pub fn replace_up<C: Ticks>(
     ensures spares { spares store.new ≡ spares store.old }
     ensures rooms { rooms store.new ≡ rooms store.old }
 {
-    let mut exchange = Exchange::none();
-    put_over(store, name, line, &mut exchange);
+    let mut gone = Sums::zero();
+    let mut more = Sums::zero();
+    put_over(store, name, line, &mut gone, &mut more);
+    let exchange = Exchange::between(&gone, &more);
     exchange_up(store, root, height, name, &exchange, ticks);
 }
 
@@ -154,8 +162,10 @@ pub fn edit_up<C: Ticks, E: LineEdit>(
     ensures spares { spares store.new ≡ spares store.old }
     ensures rooms { rooms store.new ≡ rooms store.old }
 {
-    let mut exchange = Exchange::none();
-    edit_over(store, name, edit, &mut exchange)?;
+    let mut gone = Sums::zero();
+    let mut more = Sums::zero();
+    edit_over(store, name, edit, &mut gone, &mut more)?;
+    let exchange = Exchange::between(&gone, &more);
     exchange_up(store, root, height, name, &exchange, ticks);
     Ok(())
 }

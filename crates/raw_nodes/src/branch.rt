@@ -105,10 +105,12 @@ impl Branch {
     }
 
     /// Counts what comes more, and what goes less.
-    pub fn exchange(&mut self, exchange: &Exchange)
-        requires { CanExchange exchange.now.gone exchange.now.more exchange.now.is_level (branch_sum self.old) }
+    pub fn exchange(&mut self, exchange: &Exchange<'_>)
+        requires { CanExchange exchange.now.gone.now exchange.now.more.now exchange.now.is_level
+            (branch_sum self.old) }
         ensures children { self.new.room.value.children ≡ self.old.room.value.children }
-        ensures sum { branch_sum self.new ≡ exchanged exchange.now.gone exchange.now.more (branch_sum self.old) }
+        ensures sum { branch_sum self.new
+            ≡ exchanged exchange.now.gone.now exchange.now.more.now (branch_sum self.old) }
     {
         let Exchange { gone, more, .. } = exchange;
         self.add_counts(more.lines(), more.characters(), more.marks());

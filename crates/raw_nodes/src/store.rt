@@ -329,12 +329,12 @@ impl<C: Ticks> NodeStore<C> {
     }
 
     /// Counts what comes more, and what goes less, of the text below an inner node.
-    pub fn exchange(&mut self, name: NodePtr, exchange: &Exchange)
+    pub fn exchange(&mut self, name: NodePtr, exchange: &Exchange<'_>)
         requires name { IsInner self.old name }
         requires sum { IfSome (entry self.old name) (λ r.
-            CanExchange exchange.now.gone exchange.now.more exchange.now.is_level r.sum) }
+            CanExchange exchange.now.gone.now exchange.now.more.now exchange.now.is_level r.sum) }
         ensures records { records self.new ≡ update (records self.old) name
-            (λ r. with_sum r (exchanged exchange.now.gone exchange.now.more r.sum)) }
+            (λ r. with_sum r (exchanged exchange.now.gone.now exchange.now.more.now r.sum)) }
         ensures spares { spares self.new ≡ spares self.old }
         ensures rooms { rooms self.new ≡ rooms self.old }
     {

@@ -7,12 +7,10 @@ pub use Rattle.std.proofs.Common.{nat_lt, not, refl, rules, set, subst, suc, sym
 pub use Rattle.segments.specs.Columns.{Column, LineContent, after_removal, after_text, characters, earlier, free_behind}
 pub use Rattle.segments.specs.Columns.{joined, joined_marks, later, line_before, line_behind, line_count, marks_where}
 pub use Rattle.segments.specs.Columns.{next_toggle, plain_columns, plain_line, previous_toggle, reset, tags_before}
-pub use Rattle.segments.specs.Columns.{toggled_first, toggled_if, toggled_more, toggles, with_toggle}
-pub use Rattle.segments.specs.Columns.{without_columns}
+pub use Rattle.segments.specs.Columns.{toggled_first, toggled_if, toggled_more, toggles, with_toggle, without_columns}
 pub use Rattle.segments.specs.Entries.{CanMoveBack, CanMoveOn, HasOneWord, LieIn, RiseIn, any_of, entries_in, flipped}
-pub use Rattle.segments.specs.Entries.{flipped_if}
-pub use Rattle.segments.specs.Entries.{later_of, moved_back, moved_on, next_entry, odd_of, place_of, previous_entry}
-pub use Rattle.segments.specs.Entries.{slots_cleared, toggled_at, without_span}
+pub use Rattle.segments.specs.Entries.{flipped_if, later_of, moved_back, moved_on, next_entry, odd_of, place_of}
+pub use Rattle.segments.specs.Entries.{previous_entry, slots_cleared, toggled_at, without_span}
 pub use Rattle.segments.specs.Forms.{content, is_plain}
 pub use Rattle.segments.specs.Kept.{AreKept, columns_from}
 pub use Rattle.segments.specs.Marks.{Below, Rise, StandIn, entries_of, entry_of, marks_of, with_place}
@@ -40,7 +38,7 @@ pub use Rattle.std.specs.Cmp.{booleans_Decides, eq_by_cmp_equiv, nat_cmp_is, nat
 pub use Rattle.std.specs.FinMap.{find, is_sorted, nat_cmp-IsAntisymmetric, put}
 pub use Rattle.std.specs.FinMap.Entries.{below_all, by_order, find-where_key, is_sorted-put, is_sorted-where_key}
 pub use Rattle.std.specs.FinMap.Entries.{where_key}
-pub use Rattle.std.specs.List.{All, filter, insert, position, prefix_len, reduce, remove, suffix_len}
+pub use Rattle.std.specs.List.{All, filter, insert, insert_slice, position, prefix_len, reduce, remove, suffix_len}
 pub use Rattle.std.specs.List.Sorted.{IsNonDecreasingBy, IsPartitionPoint}
 pub use Rattle.std.specs.Ordering.{eq_by_cmp, is_eq, is_lt, nat_cmp}
 pub use Rattle.std.specs.Prelude.{if◌then◌else◌, ⊤, Err, IfOk, IfSome, IsUtf8, Ok, OnOk, Result, chars, encode_utf8}
@@ -66,6 +64,6 @@ pub use Rattle.text_model.specs.declared.places.Place.{Place}
 pub use Rattle.text_model.specs.declared.tag_set.TheConstants.{WORDS}
 pub use Rattle.toggle_sums.specs.CountLaws.{contains-differing, differing-associative, differing-commutative}
 pub use Rattle.toggle_sums.specs.CountLaws.{differing-empty, either, either-associative, empty-differing, empty-union}
-pub use Rattle.toggle_sums.specs.CountLaws.{same_slots, union-associative, union-empty}
+pub use Rattle.toggle_sums.specs.CountLaws.{no_text-plus, same_slots, union-associative, union-empty}
 pub use Rattle.toggle_sums.specs.Counts.{Count, CountsFit, counting, plus, with_toggles_of}
 pub use Rattle.toggle_sums.specs.Toggles.{parity, presence}

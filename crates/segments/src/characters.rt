@@ -28,7 +28,7 @@ impl Model for Characters {
     ghost invariant = { λ a. a.count ≡ length (chars (string_bytes a.text)) };
 }
 
-/// A copy of a text that has characters has room for so many bytes more: it is made to be changed, mostly by a few
+/// The spare capacity, in bytes, of a copy of a text that has characters: it is made to be changed, mostly by a few
 /// characters.
 const MORE: usize = 8;
 
@@ -39,10 +39,10 @@ fn has_more_room(text: &String) -> bool
     text.capacity() - text.len() > MORE
 }
 
-/// So many bytes of room beyond twice a text's length aren't given back.
+/// The capacity, in bytes, beyond twice a text's length that isn't given back.
 const SPARE: usize = 64;
 
-/// Makes room in a text for so many bytes more. If it has to grow, it gets a few more than these, or a sixteenth of its
+/// Reserves capacity in a text for more bytes. If it has to grow, it gets a few more than these, or a sixteenth of its
 /// length, so that the next insertions don't allocate, and a long text isn't copied for each of them.
 fn make_room(text: &mut String, bytes: usize) -> Result<(), AllocError>
     ensures { string_bytes text.new ≡ string_bytes text.old }
@@ -98,7 +98,7 @@ fn split_last(text: &str) -> Option<(char, &str)>
     Some((last, characters.as_str()))
 }
 
-/// How many characters from the first on pass a test, in a text of so many.
+/// Returns how many characters from the first on pass a test, in a text of `count` characters.
 fn passing_from_first<T: CharacterTest>(text: &str, count: usize) -> usize
     requires { count ≡ length (chars text.now) }
     ensures { result ≡ prefix_len T.test (chars text.now) }
@@ -113,7 +113,7 @@ fn passing_from_first<T: CharacterTest>(text: &str, count: usize) -> usize
     count
 }
 
-/// How many characters from the last back pass a test, in a text of so many.
+/// Returns how many characters from the last back pass a test, in a text of `count` characters.
 fn passing_from_last<T: CharacterTest>(text: &str, count: usize) -> usize
     requires { count ≡ length (chars text.now) }
     ensures { result ≡ suffix_len T.test (chars text.now) }
@@ -128,7 +128,7 @@ fn passing_from_last<T: CharacterTest>(text: &str, count: usize) -> usize
     count
 }
 
-/// The byte at which a column begins, in a text of so many characters.
+/// Returns the byte at which a column begins, in a text of `count` characters.
 fn byte_of(text: &str, count: usize, column: usize) -> usize
     requires count { count ≡ length (chars text.now) }
     requires within { column ≤ count }

@@ -14,7 +14,7 @@ ghost use Rattle.text_model.specs.TagBits.{slot_count};
 ghost use Rattle.segments.specs.Columns.{after_removal, after_text, characters, joined, line_before, line_behind};
 ghost use Rattle.segments.specs.Columns.{line_count, next_toggle, plain_line, previous_toggle, reset, tags_before};
 ghost use Rattle.segments.specs.Columns.{toggled_more, toggles, with_toggle};
-ghost use Rattle.toggle_sums.specs.Counts.{CountsFit, plus};
+ghost use Rattle.toggle_sums.specs.Counts.{CountsFit, no_text, plus};
 ghost use Rattle.toggle_sums.specs.Toggles.{parity};
 
 use crate::characters::Characters;
@@ -298,12 +298,13 @@ impl Line {
         sum
     }
 
-    /// Makes a sum what is counted of the line.
+    /// Makes an empty sum what is counted of the line: without a copy of the sum, which takes much room.
     pub fn sum_to(&self, sum: &mut Sums<WORDS>)
+        requires { sum.old ≡ no_text }
         ensures { sum.new ≡ line_count self.now }
     {
         match &self.form {
-            Form::Plain(text) => *sum = Sums::counting(1, text.len(), 0),
+            Form::Plain(text) => sum.add_counts(1, text.len(), 0),
             Form::Rich(line) => line.sum_to(sum),
         }
     }

@@ -71,7 +71,7 @@ pub fn is_odd(toggles: &[Toggled], slot: TagSlot) -> bool
     is_odd
 }
 
-/// Moves toggles so many columns on.
+/// Moves toggles on by a number of columns.
 pub fn move_on(toggles: &mut [Toggled], count: usize)
     requires { All (CanMoveOn count) toggles.old }
     ensures { toggles.new ≡ map (moved_on count) toggles.old }
@@ -81,7 +81,7 @@ pub fn move_on(toggles: &mut [Toggled], count: usize)
     }
 }
 
-/// Moves toggles so many columns back.
+/// Moves toggles back by a number of columns.
 pub fn move_back(toggles: &mut [Toggled], count: usize)
     requires { All (CanMoveBack count) toggles.old }
     ensures { toggles.new ≡ map (moved_back count) toggles.old }
@@ -91,7 +91,7 @@ pub fn move_back(toggles: &mut [Toggled], count: usize)
     }
 }
 
-/// Moves the toggles from an index on so many columns on.
+/// Moves the toggles from an index on by a number of columns.
 pub fn move_rest_on(toggles: &mut Vec<Toggled>, start: usize, count: usize)
     requires within { start ≤ vec_len toggles.old }
     requires room { All (CanMoveOn count) (drop start toggles.old.items) }
@@ -101,7 +101,7 @@ pub fn move_rest_on(toggles: &mut Vec<Toggled>, start: usize, count: usize)
     move_on(&mut toggles[start..], count);
 }
 
-/// Moves the toggles from an index on so many columns back.
+/// Moves the toggles from an index on back by a number of columns.
 pub fn move_rest_back(toggles: &mut Vec<Toggled>, start: usize, count: usize)
     requires within { start ≤ vec_len toggles.old }
     requires room { All (CanMoveBack count) (drop start toggles.old.items) }

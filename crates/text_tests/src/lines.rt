@@ -412,6 +412,7 @@ fn twice(line: &Line) -> Option<Answer> {
     line.add_to(&mut sum);
     let found = counts(&sum, 2);
     let is_even = sum.odd_slots().is_empty();
+    sum = Sums::counting(0, 0, 0);
     line.sum_to(&mut sum);
     if !is_even || counts(&sum, 1) != counts(&line.sum(), 1) || sum.marks() != line.marks() {
         return None;

@@ -102,12 +102,9 @@ fn sums_exchanged(rt: &impl Abort, store: &mut NodeStore<Steps>)
 {
     let top = store.make(None);
     store.set_sum(top, &Sums::counting(2, 9, 1));
-    let mut exchange = Exchange::none();
-    exchange.open();
-    exchange.gone = Sums::counting(1, 4, 0);
-    exchange.more = Sums::counting(2, 6, 0);
-    exchange.compare();
-    store.exchange(top, &exchange);
+    let gone = Sums::counting(1, 4, 0);
+    let more = Sums::counting(2, 6, 0);
+    store.exchange(top, &Exchange::between(&gone, &more));
     assert!(rt; store.size(top, &mut Steps::new()) == (3, 11));
 }
 

@@ -58,28 +58,18 @@ fn sums_lose_a_part(rt: HostRuntime) {
     assert!(rt; rest.has(TagSlot(64)) && !rest.parity(TagSlot(64)));
 }
 
-fn exchange_of(gone: &Sums<WORDS>, more: &Sums<WORDS>) -> Exchange {
-    let mut exchange = Exchange::none();
-    exchange.open();
-    exchange.gone = *gone;
-    exchange.more = *more;
-    exchange.compare();
-    exchange
-}
-
 #[test]
 fn sums_exchange_a_part(rt: HostRuntime) {
     let tagged: Sums<WORDS> = Sums::counting(1, 5, 0).toggled(TagSlot(64));
     let longer = Sums::counting(1, 8, 1).toggled(TagSlot(64));
     let bare = Sums::counting(1, 5, 0);
     assert!(rt; tagged.has_toggles_of(&longer) && !tagged.has_toggles_of(&bare));
-    let level = exchange_of(&tagged, &longer);
-    let within = exchange_of(&bare, &tagged);
-    let outside = exchange_of(&tagged, &bare);
+    let level = Exchange::between(&tagged, &longer);
+    let within = Exchange::between(&bare, &tagged);
+    let outside = Exchange::between(&tagged, &bare);
     assert!(rt; level.is_level && level.is_within && within.is_within && !within.is_level);
     assert!(rt; !outside.is_within && !outside.is_level);
-    let none = Exchange::none();
-    assert!(rt; none.is_level && none.gone.is_bare() && none.more.is_bare());
+    assert!(rt; outside.gone.has(TagSlot(64)) && outside.more.is_bare());
     let mut sum = bare;
     assert!(rt; sum.lines() == 1 && sum.characters() == 5 && sum.marks() == 0);
     assert!(rt; tagged.lines() == 1 && tagged.characters() == 5 && tagged.marks() == 0);

@@ -3,10 +3,10 @@ pub use Rattle.std.proofs.Common.{[], ap₂, if◌then◌else◌, ℕ, ◌%◌, 
 pub use Rattle.std.proofs.Common.{◌∙◌, ◌∷◌, ◌≡◌, ◌≢◌, ◌≤◌, Bool, List, add-one, ap, arith, bit_and, bit_or, bit_xor}
 pub use Rattle.std.proofs.Common.{cond, false, get_or-set_other, get_or-set_same, inl, inr, length, length-set, lt-ltb}
 pub use Rattle.std.proofs.Common.{max, mod-eq_of_lt, nat_eq, nat_lt, not, refl, replicate, rules, slice_index}
-pub use Rattle.std.proofs.Common.{slice_set, suc, sym, take, true, w64, zero}
+pub use Rattle.std.proofs.Common.{slice_set, subst, suc, sym, take, true, w64, zero}
 pub use Rattle.std.proofs.lemmas.Bool.{cases_eq, cases_lt}
 pub use Rattle.std.proofs.lemmas.Bool.Decides.{nat_tests}
-pub use Rattle.std.proofs.lemmas.List.{get_or_past, length-replicate}
+pub use Rattle.std.proofs.lemmas.List.{get_or-take, get_or_past, length-replicate}
 pub use Rattle.std.proofs.lemmas.Nat.{and_or_self, or_lt, xor_lt}
 pub use Rattle.std.proofs.lemmas.Slice.Eq.{bytes_eq-Decides}
 pub use Rattle.std.specs.Cmp.{nat_cmp_total}

@@ -3,6 +3,8 @@ use Rattle.toggle_sums.proofs.Common.{◌≡◌, ◌≢◌, ℕ, zero, suc, ◌+
 use Rattle.toggle_sums.proofs.Common.{if◌then◌else◌, bit_and, bit_or, List, length, replicate, slice_index, slice_set}
 use Rattle.toggle_sums.proofs.Common.{refl, sym, ap, ap₂, ◌∙◌, arith, inl, inr, get_or-set_same, get_or-set_other}
 use Rattle.toggle_sums.proofs.Common.{cases_eq, cases_lt, nat_tests, get_or_past, and_or_self, EndBy, AreUsed, slots_of}
+use Rattle.toggle_sums.proofs.Common.{get_or-take, take}
+use Rattle.std.proofs.lemmas.Grind.{same_number_lists}
 use Rattle.toggle_sums.specs.SlotWords.{last_used}
 use Rattle.toggle_sums.proofs.WordSteps.{AreWords-zeros, same_words, slots_of-none, zeros_at, zeros_of-slots_of}
 use Rattle.std.specs.FinSet as set
@@ -189,6 +191,17 @@ none_toggled count used first second are none = (
   slots_of-none count first (λ k _. ends-parity count used first second are k (omega (arith, none))),
   slots_of-none count second (λ k _. ends-presence count used first second are k (omega (arith, none))),
 )
+
+-- words of which so many are used are the same where those are
+pub same-used_words : (count used : ℕ) (a b : List ℕ) → length a ≡ count → length b ≡ count → EndBy used a →
+    EndBy used b → take used a ≡ take used b → a ≡ b
+same-used_words count used a b long long_too ends ends_too same =
+    same_number_lists a b (long ∙ sym long_too) (λ k _. elim (cases_lt k used) [
+      | inl below ↦
+          sym (get_or-take used a k 0 below) ∙ ap (λ (words : List ℕ). slice_index words k) same
+          ∙ get_or-take used b k 0 below
+      | inr past ↦ ends k past ∙ sym (ends_too k past)
+    ])
 
 -- where the same slots are toggled, as many words are used
 pub same_used : (count used others : ℕ) (a b c d : List ℕ) → AreUsed count used a b → AreUsed count others c d →

@@ -138,10 +138,12 @@ impl<const K: usize> ToggleWords<K> {
         ensures yes { result ≡ true → self.now ≡ others.now }
         ensures no { self.now ≡ others.now → result ≡ true }
     {
-        if self.used != others.used {
+        let used = self.used;
+        if used != others.used {
             return false;
         }
-        self.parity == others.parity && self.presence == others.presence
+        self.parity[..used] == others.parity[..used]
+            && self.presence[..used] == others.presence[..used]
     }
 
     /// Counts the toggles of others too.

@@ -62,8 +62,8 @@ returns-clause-edits g c =
         was = was;
         same = (wrote g at c.trim.new.self).records
             ∙ ap (λ new. update (records c.args.store.now) c.args.name (λ r. with_line r new)) made;
-        went = c.compare.ensures.same.0 ∙ c.sum_to.ensures;
-        came = c.compare.ensures.same.1 ∙ c.sum_to-2.ensures ∙ ap line_count made;
+        went = c.sum_to.ensures;
+        came = c.sum_to-2.ensures ∙ ap line_count made;
       };
     }
 

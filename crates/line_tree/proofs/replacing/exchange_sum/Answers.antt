@@ -15,15 +15,15 @@ exchange-requires g c = record {
   sum =
       let m = records c.args.store.now in let p = c.args.node in let has = c.requires.row in
       let both = c.args.exchange.now in let below = sums m (row (kids m p)) in let old = has.found.sum in
-      let here = ap sum_of has.is in let now = c.requires.sum ∙ ap (λ s. plus s both.more) here in
+      let here = ap sum_of has.is in let now = c.requires.sum ∙ ap (λ s. plus s both.more.now) here in
       let lines = ap (λ (s : Count). s.lines) now in let characters = ap (λ (s : Count). s.characters) now in
       let marks = ap (λ (s : Count). s.marks) now in
-      subst (λ o. IfSome o (λ r. CanExchange both.gone both.more both.is_level r.sum)) (sym has.is) (record {
-        fits = fits-both old both.more (subst (λ s. FitsSum (plus s both.more)) here c.requires.fits);
+      subst (λ o. IfSome o (λ r. CanExchange both.gone.now both.more.now both.is_level r.sum)) (sym has.is) (record {
+        fits = fits-both old both.more.now (subst (λ s. FitsSum (plus s both.more.now)) here c.requires.fits);
         counts = record { lines = omega arith; characters = omega arith; marks = omega arith };
         level = λ level. subst (λ s. set.union old.presence s ≡ old.presence)
-            (same_slots both.gone.presence both.more.presence (both.level_told level).1)
-            (subst (IsWithin both.gone) here c.requires.went);
+            (same_slots both.gone.now.presence both.more.now.presence (both.level_told level).1)
+            (subst (IsWithin both.gone.now) here c.requires.went);
       });
 }
 
@@ -32,9 +32,9 @@ returns-then-exchange-clause-records g c = let m = records c.args.store.now in l
     let has = c.requires.row in let both = c.args.exchange.now in
     let below = sums m (row (kids m p)) in
     let here = ap sum_of has.is in
-    let now = ap (λ s. plus s both.more) (sym here) ∙ sym c.requires.sum in
-    let part = union-part both.gone.presence both.more.presence (both.within_told c.if-exchange.true) in
-    let kept = within-both both.gone both.more below part c.requires.came in
+    let now = ap (λ s. plus s both.more.now) (sym here) ∙ sym c.requires.sum in
+    let part = union-part both.gone.now.presence both.more.now.presence (both.within_told c.if-exchange.true) in
+    let kept = within-both both.gone.now both.more.now below part c.requires.came in
     c.exchange.ensures.records
-    ∙ update-as m p (λ r. with_sum r (exchanged both.gone both.more r.sum)) (λ r. with_sum r _) has.found has.is
-    (ap (with_sum has.found) (ap (without both.gone) now ∙ without-plus below both.gone kept))
+    ∙ update-as m p (λ r. with_sum r (exchanged both.gone.now both.more.now r.sum)) (λ r. with_sum r _) has.found has.is
+    (ap (with_sum has.found) (ap (without both.gone.now) now ∙ without-plus below both.gone.now kept))

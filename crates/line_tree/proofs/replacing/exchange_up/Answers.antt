@@ -10,8 +10,8 @@ loop-level-init g c =
     let h = c.args.height in
     let r = c.args.root in
     let name = c.args.name in
-    let gone = c.args.exchange.now.gone in
-    let more = c.args.exchange.now.more in
+    let gone = c.args.exchange.now.gone.now in
+    let more = c.args.exchange.now.more.now in
     record {
       climbs = λ m new was k at. starts m h r k name was.tree at l (λ _. new) gone more
           (puts-line m l name 0 new gone more (line-can m h r k name was.tree at) was.puts);
@@ -27,8 +27,8 @@ parent-requires g c =
     let new = c.requires.stale.1 in
     let was = c.requires.stale.2 in
     let k = was.named.0 in
-    still-named m (records c.loop-level.store) c.args.height c.args.root k (λ _. new) c.args.exchange.now.gone
-    c.args.exchange.now.more c.loop-level.level c.loop-level.at
+    still-named m (records c.loop-level.store) c.args.height c.args.root k (λ _. new) c.args.exchange.now.gone.now
+    c.args.exchange.now.more.now c.loop-level.level c.loop-level.at
     (c.loop-level.invariant.climbs m new was k was.named.1) c.loop-level-test.true
 
 pub unwrap-at-requires : goal.unwrap-at-requires
@@ -37,8 +37,8 @@ unwrap-at-requires g c =
     let new = c.requires.stale.1 in
     let was = c.requires.stale.2 in
     let k = was.named.0 in
-    has-parent m (records c.loop-level.store) c.args.height c.args.root k (λ _. new) c.args.exchange.now.gone
-    c.args.exchange.now.more c.loop-level.level c.loop-level.at
+    has-parent m (records c.loop-level.store) c.args.height c.args.root k (λ _. new) c.args.exchange.now.gone.now
+    c.args.exchange.now.more.now c.loop-level.level c.loop-level.at
     (c.loop-level.invariant.climbs m new was k was.named.1) c.loop-level-test.true c.parent.result c.parent.ensures.value
 
 pub exchange_sum-requires : goal.exchange_sum-requires
@@ -49,8 +49,8 @@ exchange_sum-requires g c =
     let l = records c.loop-level.store in
     let k = was.named.0 in
     let at = was.named.1 in
-    let gone = c.args.exchange.now.gone in
-    let more = c.args.exchange.now.more in
+    let gone = c.args.exchange.now.gone.now in
+    let more = c.args.exchange.now.more.now in
     let h = c.args.height in
     let r = c.args.root in
     let j = c.loop-level.level in
@@ -73,8 +73,8 @@ exchange_sum-requires g c =
 pub loop-level-preserved : goal.loop-level-preserved
 loop-level-preserved g c =
     let l = records c.loop-level.store in
-    let gone = c.args.exchange.now.gone in
-    let more = c.args.exchange.now.more in
+    let gone = c.args.exchange.now.gone.now in
+    let more = c.args.exchange.now.more.now in
     let h = c.args.height in
     let r = c.args.root in
     let j = c.loop-level.level in
@@ -103,7 +103,7 @@ pub returns-clause-changes : goal.returns-clause-changes
 returns-clause-changes g c = λ m new was k at.
     let l = records c.loop-level.store in
     let within = c.loop-level.invariant.within in
-    subst (λ s. Changes m l c.args.height c.args.root k (λ _. new) c.args.exchange.now.gone s) was.puts.came
-    (climbed m l c.args.height c.args.root k (λ _. new) c.args.exchange.now.gone c.args.exchange.now.more
+    subst (λ s. Changes m l c.args.height c.args.root k (λ _. new) c.args.exchange.now.gone.now s) was.puts.came
+    (climbed m l c.args.height c.args.root k (λ _. new) c.args.exchange.now.gone.now c.args.exchange.now.more.now
     c.loop-level.level c.loop-level.at (c.loop-level.invariant.climbs m new was k at)
     (omega (arith, within, c.loop-level-test.false)))

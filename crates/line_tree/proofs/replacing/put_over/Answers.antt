@@ -14,8 +14,8 @@ returns g c = let new = c.args.line in
                 ∙ sym (at_some _ (λ r. option_map (λ x. x.now) c.line_mut.result ≡ r.line) c.requires.line.found
                 c.line_mut.ensures.value c.requires.line.is) ∙ ap (option_map (λ x. x.now)) c.unwrap-place.ensures;
             same = wrote.records;
-            went = c.compare.ensures.same.0 ∙ c.sum_to-2.ensures;
-            came = c.compare.ensures.same.1 ∙ c.sum_to.ensures;
+            went = c.sum_to-2.ensures;
+            came = c.sum_to.ensures;
           };
       spares = (subst (λ o. OnSome o (WroteLine c.args.store.now (c.line_mut.follows.lender new) c.args.name new))
           c.unwrap-place.ensures (c.line_mut.follows.holds new)).spares;

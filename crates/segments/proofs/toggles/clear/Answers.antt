@@ -1,5 +1,5 @@
-use Rattle.segments.proofs.Common.{◌≡◌, ◌*◌, ◌&&◌, nat_le, nat_lt, true, false, Bool, sym, ap, ◌∙◌, rules, WORDS, toggled_at}
-use Rattle.segments.proofs.Common.{ℕ, refl, nat_tests, arith, Slots, if◌then◌else◌}
+use Rattle.segments.proofs.Common.{◌≡◌, ◌*◌, ◌&&◌, nat_le, nat_lt, true, false, Bool, sym, ap, ◌∙◌, rules, WORDS}
+use Rattle.segments.proofs.Common.{toggled_at, ℕ, refl, nat_tests, arith, Slots, if◌then◌else◌}
 use Rattle.segments.proofs.ToggleLaws.{cleared_none, lies_cleared, slots_stay_cleared}
 use Rattle.std.specs.FinSet as set
 use Rattle.segments.proofs.toggles.clear.Goals as goal

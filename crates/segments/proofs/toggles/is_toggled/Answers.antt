@@ -1,5 +1,5 @@
-use Rattle.segments.proofs.Common.{◌≡◌, ◌*◌, ◌≤◌, take, drop, sym, ap, ap₂, subst, ◌∙◌, arith, nat_tests, take-append-drop}
-use Rattle.segments.proofs.Common.{WORDS, LieIn, toggled_at, differing, differing-empty}
+use Rattle.segments.proofs.Common.{◌≡◌, ◌*◌, ◌≤◌, take, drop, sym, ap, ap₂, subst, ◌∙◌, arith, nat_tests}
+use Rattle.segments.proofs.Common.{take-append-drop, WORDS, LieIn, toggled_at, differing, differing-empty}
 use Rattle.segments.proofs.EntryLaws.{RiseIn-low, none_above, none_before}
 use Rattle.segments.proofs.SpanLaws.{counts_rise}
 use Rattle.segments.proofs.ToggleLaws.{toggled-append}

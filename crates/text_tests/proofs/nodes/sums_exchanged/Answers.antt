@@ -18,14 +18,14 @@ exchange-requires-clause-name g c =
 pub exchange-requires-clause-sum : goal.exchange-requires-clause-sum
 exchange-requires-clause-sum g c =
     at _ _ (with_sum (blank None) c.counting.result)
-    (λ r. CanExchange c.compare.new.self.gone c.compare.new.self.more c.compare.new.self.is_level r.sum)
+    (λ r. CanExchange c.between.result.gone.now c.between.result.more.now c.between.result.is_level r.sum)
     (get-summed _ _ _ _ c.counting.result c.make-top.ensures.records c.set_sum.ensures.records)
-    (subst (λ (s : Count). CanExchange c.compare.new.self.gone c.compare.new.self.more c.compare.new.self.is_level s)
+    (subst (λ (s : Count). CanExchange c.between.result.gone.now c.between.result.more.now c.between.result.is_level s)
     (sym c.counting.ensures)
-    (subst (λ (s : Count). CanExchange s c.compare.new.self.more c.compare.new.self.is_level (counting 2 9 1))
-    (sym (c.compare.ensures.same.0 ∙ c.counting-exchange.ensures))
-    (subst (λ (s : Count). CanExchange (counting 1 4 0) s c.compare.new.self.is_level (counting 2 9 1))
-    (sym (c.compare.ensures.same.1 ∙ c.counting-exchange-2.ensures))
+    (subst (λ (s : Count). CanExchange s c.between.result.more.now c.between.result.is_level (counting 2 9 1))
+    (sym (c.between.ensures.same.0 ∙ c.counting-gone.ensures))
+    (subst (λ (s : Count). CanExchange (counting 1 4 0) s c.between.result.is_level (counting 2 9 1))
+    (sym (c.between.ensures.same.1 ∙ c.counting-more.ensures))
     (record {
       fits = record { lines = omega arith; characters = omega arith; marks = omega arith };
       counts = record { lines = omega arith; characters = omega arith; marks = omega arith };
@@ -35,6 +35,6 @@ exchange-requires-clause-sum g c =
 pub size-requires : goal.size-requires
 size-requires g c =
     named _ _ _
-    (get-updated _ _ _ (λ r. with_sum r (exchanged c.compare.new.self.gone c.compare.new.self.more r.sum))
+    (get-updated _ _ _ (λ r. with_sum r (exchanged c.between.result.gone.now c.between.result.more.now r.sum))
     (with_sum (blank None) c.counting.result) c.exchange.ensures.records
     (get-summed _ _ _ _ c.counting.result c.make-top.ensures.records c.set_sum.ensures.records))

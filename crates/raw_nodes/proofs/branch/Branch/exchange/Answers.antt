@@ -6,8 +6,8 @@ pub returns-else-not-exchange-clause-sum : goal.returns-else-not-exchange-clause
 returns-else-not-exchange-clause-sum c =
     let old = branch_sum c.args.self.now in
     let exchange = c.args.exchange.now in
-    let gone = exchange.gone in
-    let more = exchange.more in
+    let gone = exchange.gone.now in
+    let more = exchange.more.now in
     let level = c.if-not-exchange.false in
     c.lose_counts.ensures.sum
     ∙ (λ i. less (c.lines-2.ensures i) (c.characters-2.ensures i) (c.marks-2.ensures i) (branch_sum c.add_counts.new.self))

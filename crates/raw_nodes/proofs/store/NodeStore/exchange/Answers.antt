@@ -22,16 +22,16 @@ unfolding records
 returns-clause-records g c =
     let both = c.args.exchange.now in
     changed c.args.self.now c.args.name c.requires.name.0 c.node_mut.ensures.value _ refl
-    (λ r. with_sum r (exchanged both.gone both.more r.sum))
+    (λ r. with_sum r (exchanged both.gone.now both.more.now r.sum))
     (recounted c.node_mut.result.now.held c.branch_mut-branch.result.now c.exchange.new.self _
-    (exchanged both.gone both.more)
+    (exchanged both.gone.now both.more.now)
     c.branch_mut-branch.ensures.value c.exchange.ensures.children c.exchange.ensures.sum)
 
 pub exchange-requires : goal.exchange-requires
 exchange-requires g c =
     let both = c.args.exchange.now in
-    subst (λ k. CanExchange both.gone both.more both.is_level
+    subst (λ k. CanExchange both.gone.now both.more.now both.is_level
     (record_in k (link_name c.node_mut.result.now.parent)).sum)
     c.branch_mut-branch.ensures.value
     (told c.args.self.now c.args.name c.requires.name.0 c.node_mut.ensures.value
-    (λ r. CanExchange both.gone both.more both.is_level r.sum) c.requires.sum)
+    (λ r. CanExchange both.gone.now both.more.now both.is_level r.sum) c.requires.sum)

@@ -1,7 +1,6 @@
 use Rattle.segments.proofs.Common.{◌≡◌, ◌≤◌, ap, ◌∙◌, arith, length, chars, string_bytes, IsUtf8-string_bytes, inserted}
-use Rattle.segments.proofs.Common.{length-inserted}
+use Rattle.segments.proofs.Common.{length-inserted, insert_slice}
 use Rattle.segments.proofs.TextLaws.{fewer_characters, inserted_text}
-use Rattle.std.specs.List.{insert_slice}
 use Rattle.segments.proofs.characters.Characters.insert.Goals.{In_ok-insert_str}
 use Rattle.segments.proofs.characters.Characters.insert.Goals as goal
 

@@ -1,5 +1,6 @@
-use Rattle.segments.proofs.Common.{◌≡◌, ◌+◌, ◌*◌, ◌≤◌, ◌≢◌, ◌==◌, true, false≢true, get_or, length, take, drop, sym, ap, subst, ◌∙◌, arith, nat_tests}
-use Rattle.segments.proofs.Common.{List, ℕ, columns_from, LineContent, LieIn, Toggled, WORDS, parity, tags_before, toggles}
+use Rattle.segments.proofs.Common.{◌≡◌, ◌+◌, ◌*◌, ◌≤◌, ◌≢◌, ◌==◌, true, false≢true, get_or, length, take, drop, sym, ap}
+use Rattle.segments.proofs.Common.{subst, ◌∙◌, arith, nat_tests, List, ℕ, columns_from, LineContent, LieIn, Toggled}
+use Rattle.segments.proofs.Common.{WORDS, parity, tags_before, toggles}
 use Rattle.segments.proofs.ColumnLaws.{front-entries}
 use Rattle.segments.proofs.EntryLaws.{LieIn-next, RiseIn-high}
 use Rattle.std.specs.FinSet as set

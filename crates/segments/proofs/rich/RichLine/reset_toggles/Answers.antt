@@ -1,5 +1,5 @@
-use Rattle.segments.proofs.Common.{◌<◌, length, ap, sym, ◌∙◌, arith, LieIn, LineContent, reset, subst}
-use Rattle.segments.proofs.Common.{columns_from, toggled_if}
+use Rattle.segments.proofs.Common.{◌<◌, length, ap, sym, ◌∙◌, arith, LieIn, LineContent, reset, subst, columns_from}
+use Rattle.segments.proofs.Common.{toggled_if}
 use Rattle.segments.proofs.ChangeLaws.{columns_cleared, columns_flipped_if}
 use Rattle.segments.proofs.RichLaws.{as_long}
 use Rattle.segments.proofs.rich.RichLine.reset_toggles.Goals as goal
