@@ -75,7 +75,7 @@ pub fn put_mark<S: TextStore>(
         ≡ record (S.content store.old) { marks = finite.insert (S.content store.old).marks number.0 place }) }
     ensures err { OnErr result (S.content store.new ≡ S.content store.old) }
 {
-    if store.mark_within(number, place)? {
+    if store.move_mark(number, place)? {
         return Ok(());
     }
     let mut steps = StepList::new(alloc);

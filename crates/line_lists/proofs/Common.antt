@@ -5,7 +5,8 @@ pub use Rattle.std.proofs.Common.{Some, T, Vec, add-one, ap, append_assoc, arith
 pub use Rattle.std.proofs.Common.{get_or, inl, inr, length, length-append, length-drop, length-take, map, max, min}
 pub use Rattle.std.proofs.Common.{nat_lt, not, refl, replicate, rules, set, subst, suc, sym, take, take-append-drop}
 pub use Rattle.std.proofs.Common.{true, vec_len, w8, zero}
-pub use Rattle.line_lists.specs.Changes.{CanChange, CanEdit, IsChangedBy, lines_changed, lines_freed}
+pub use Rattle.line_lists.specs.Changes.{CanChange, CanEdit, CanMark, IsChangedBy, lines_changed, lines_freed}
+pub use Rattle.line_lists.specs.Changes.{lines_marked}
 pub use Rattle.line_lists.specs.Clearing.{AreFree, free_end, free_length, lines_on}
 pub use Rattle.line_lists.specs.DraftTexts.{IsDraftIn, IsTextIn, lines_in, taken_in, text_in}
 pub use Rattle.line_lists.specs.Drafts.{AreStops, BeginsBehind, BeginsBy, CanFollow, IsBefore, IsDraft, IsFound}

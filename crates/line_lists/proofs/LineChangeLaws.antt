@@ -9,7 +9,8 @@ use Rattle.line_lists.proofs.Common.{CanMake, Slots, CanPlace, content_made, fre
 use Rattle.line_lists.proofs.Common.{Holds, made, lines, piece_lines, placed, rows_more, IsAt, content_of, text_of}
 use Rattle.line_lists.proofs.Common.{whole, after_text, after_removal, differing, toggled_more, tags_left_of}
 use Rattle.line_lists.proofs.Common.{with_toggled, with_cleared, set_slot, StepFitsIn, PieceChange, CanChange}
-use Rattle.line_lists.proofs.Common.{IsChangedBy, lines_changed, lines_freed, option_to_list, TagSlot, set_split, ◌^◌}
+use Rattle.line_lists.proofs.Common.{IsChangedBy, lines_changed, lines_freed, lines_marked, option_to_list, TagSlot}
+use Rattle.line_lists.proofs.Common.{set_split, slice_get_within, ◌^◌}
 use Rattle.line_lists.specs.declared.line_changes.LineChange.{LineChange}
 use Rattle.line_lists.specs.declared.pieces.Growth.{Growth}
 use Rattle.line_lists.proofs.ClearingLaws.{cleared-makes, length-cleared, tags-around}
@@ -61,6 +62,16 @@ replaced-made at line xs within =
     set_split xs at line within
     ∙ ap (λ n. take at xs ++ line ∷ drop n xs) (let next : suc at ≡ at + 1 = omega arith in next)
     ∙ sym (spliced-one at line xs)
+
+-- the mark of a number is taken from all lines, and put into one
+pub marked-made : (number at : ℕ) (place : Place) (line new : LineContent) (xs written : List LineContent) →
+    slice_get xs at ≡ Some line → written ≡ map (without_mark number) xs → new ≡ with_mark number place line →
+    set written at new ≡ lines_marked number at place line xs
+marked-made number at place line new xs written is made new_is =
+    let within = slice_get_within xs at line is in
+    ap₂ (λ ys y. set ys at y) made new_is
+    ∙ replaced-made at (with_mark number place line) (map (without_mark number) xs)
+    (omega (arith, within, length-map xs (without_mark number)))
 
 -- where it ends can be counted
 pub spliced-fits : (k start : ℕ) (line : LineContent) (xs : List LineContent) →

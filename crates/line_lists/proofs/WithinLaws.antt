@@ -6,17 +6,14 @@ use Rattle.line_lists.proofs.Common.{slice_get, get_or, get_or_from_slice_get, i
 use Rattle.line_lists.proofs.Common.{length-map, nat_cmp_total, nat_cmp, is_some, option_map, Place, Marks, Slots}
 use Rattle.line_lists.proofs.Common.{map_marks, get-map_marks, after, Step, StepFitsIn, LineContent, differing, parity}
 use Rattle.line_lists.proofs.Common.{toggles, tags_before, tags_left_of, AreLines, Holds, IsCounted, count_of, plus}
-use Rattle.line_lists.proofs.Common.{has_mark, spliced, IsChangedBy, content_of, whole, slot_sets, slots_left_of}
-use Rattle.line_lists.proofs.Common.{shared_slots, same_slots, CanEdit, line_count, ◌^◌, not, lines, SomeIff, Column}
-use Rattle.line_lists.proofs.Common.{toggled_more, after_text, Insert, SetTag, TagSlot, set_slot, with_cleared, PutMark}
-use Rattle.line_lists.proofs.Common.{MarkNo, IsAt, AreRows, drop, drop-map, take-map, without_mark, with_mark}
-use Rattle.line_lists.proofs.Common.{none-some, eq_by_cmp, true≢false, tied_same, ◌++◌, with_toggled, length-changed}
-use Rattle.line_lists.proofs.Common.{reset, toggled_if, beq, differing-self}
+use Rattle.line_lists.proofs.Common.{CanMark, has_mark, spliced, IsChangedBy, content_of, whole, slot_sets}
+use Rattle.line_lists.proofs.Common.{slots_left_of, shared_slots, same_slots, CanEdit, line_count, ◌^◌, not, lines}
+use Rattle.line_lists.proofs.Common.{SomeIff, Column, toggled_more, after_text, Insert, SetTag, TagSlot, set_slot}
+use Rattle.line_lists.proofs.Common.{with_cleared, PutMark, MarkNo, IsAt, without_mark, with_mark, with_toggled}
+use Rattle.line_lists.proofs.Common.{length-changed, reset, toggled_if, beq, differing-self}
 use Rattle.line_lists.proofs.ClearingLaws.{length-cleared}
 use Rattle.line_lists.proofs.LineChangeLaws.{change-can, change-new, column-inside, inserted-changed, tagged-changed}
-use Rattle.line_lists.proofs.LineChangeLaws.{marked-changed, split-lent, toggled-one}
-use Rattle.line_lists.proofs.FreedLaws.{same-line}
-use Rattle.line_lists.proofs.RowLaws.{free-parts}
+use Rattle.line_lists.proofs.LineChangeLaws.{marked-changed, toggled-one}
 use Rattle.line_lists.proofs.PlaceRows.{tags-at, tags-before}
 use Rattle.line_lists.proofs.StepTexts.{toggled-empty}
 use Rattle.line_lists.proofs.SwitchLaws.{switched_one, unswitched}
@@ -76,71 +73,6 @@ shared-is (suc n) cells slots left here =
     (get_or_from_slice_get sets (suc n) slots set.empty here)
     ∙ intersection-self slots
 
--- ---- a mark that stands in a line, and so in no other
-free-all : (n : ℕ) (xs : List LineContent) → finite.get (whole xs).marks n ≡ None → map (without_mark n) xs ≡ xs
-free-all n [] free = refl
-free-all n (x ∷ xs) free =
-    let parts = free-parts x (whole xs) n free in
-    ap₂ (λ (y : LineContent) ys. y ∷ ys) (same-line n x parts.1) (free-all n xs parts.0)
-
-none-in : (n : ℕ) (xs : List LineContent) (here : LineContent) (behind : List LineContent) →
-    finite.get (whole (xs ++ here ∷ behind)).marks n ≡ None → finite.get here.marks n ≡ None
-none-in n [] here behind free = (free-parts here (whole behind) n free).1
-none-in n (x ∷ xs) here behind free = none-in n xs here behind (free-parts x (whole (xs ++ here ∷ behind)) n free).0
-
-free-after : (n : ℕ) (here : LineContent) (behind : List LineContent) (place : Place) → AreRows (here ∷ behind) →
-    finite.get here.marks n ≡ Some place → map (without_mark n) behind ≡ behind
-free-after n here [] place rows is = refl
-free-after n here (next ∷ others) place rows is = free-all n (next ∷ others) (rows.1.1 n place is)
-
-free-one : (n : ℕ) (x here : LineContent) (xs behind : List LineContent) (place : Place) →
-    AreRows (x ∷ (xs ++ here ∷ behind)) → finite.get here.marks n ≡ Some place → without_mark n x ≡ x
-free-one n x here [] behind place rows is =
-    elim (finite.get x.marks n) as (λ o. finite.get x.marks n ≡ o → without_mark n x ≡ x) [
-      | None ↦ λ free. same-line n x free
-      | Some p ↦ λ has. absurd (none-some place (sym (none-in n [] here behind (rows.1.1 n p has)) ∙ is))
-    ] refl
-free-one n x here (y ∷ xs) behind place rows is =
-    elim (finite.get x.marks n) as (λ o. finite.get x.marks n ≡ o → without_mark n x ≡ x) [
-      | None ↦ λ free. same-line n x free
-      | Some p ↦ λ has. absurd (none-some place (sym (none-in n (y ∷ xs) here behind (rows.1.1 n p has)) ∙ is))
-    ] refl
-
-free-before : (n : ℕ) (xs : List LineContent) (here : LineContent) (behind : List LineContent) (place : Place) →
-    AreRows (xs ++ here ∷ behind) → finite.get here.marks n ≡ Some place → map (without_mark n) xs ≡ xs
-free-before n [] here behind place rows is = refl
-free-before n (x ∷ xs) here behind place rows is =
-    ap₂ (λ (y : LineContent) ys. y ∷ ys) (free-one n x here xs behind place rows is)
-    (free-before n xs here behind place rows.2 is)
-
-rows-from : (xs : List LineContent) (here : LineContent) (behind : List LineContent) → AreRows (xs ++ here ∷ behind) →
-    AreRows (here ∷ behind)
-rows-from [] here behind rows = rows
-rows-from (x ∷ xs) here behind rows = rows-from xs here behind rows.2
-
-pub same-len : (marks : Marks) (n : ℕ) (old place : Place) → finite.get marks n ≡ Some old →
-    finite.len (finite.insert marks n place) ≡ finite.len marks
-same-len marks n old place is =
-    finite.len-insert nat_cmp_total marks n place
-    ∙ ap (λ (o : Option Place). cond (is_some o) (finite.len marks) (finite.len marks + 1)) is
-
-still-marked : (b : Bool) (found : Option Place) (place : Place) → (b ≡ true → is_some found ≡ true) →
-    is_some (cond b (Some place) found) ≡ is_some found
-still-marked true found place there = sym (there refl)
-still-marked false found place there = refl
-
-pub same-marks : (marks : Marks) (n q : ℕ) (old place : Place) → finite.get marks n ≡ Some old →
-    is_some (finite.get (finite.insert marks n place) q) ≡ is_some (finite.get marks q)
-same-marks marks n q old place is =
-    ap is_some (finite.get-insert nat_cmp_total marks n place q)
-    ∙ still-marked (eq_by_cmp nat_cmp q n) (finite.get marks q) place (λ tied.
-    ap (λ m. is_some (finite.get marks m)) (tied_same q n tied) ∙ ap is_some is)
-
--- what is found
-pub found-some : (found : Option Place) → is_some found ≡ true → (place : Place) × (found ≡ Some place)
-found-some None some = absurd (true≢false (sym some))
-found-some (Some place) some = (place, refl)
-
 -- ---- what is counted
 -- a sum that was made
 pub sum-made : (found : Option ℕ) (bound sum made : ℕ) → SomeIff found (sum < bound) sum → found ≡ Some made →
@@ -157,6 +89,20 @@ longer-counted list line longer more lines characters marks long few = record {
   characters = omega (arith, characters, long);
   marks = omega (arith, marks, few);
 }
+
+pub marked-counted : (list : List LineContent) (line : LineContent) (number : ℕ) (place : Place) →
+    (count_of list).lines + 1 < 2 ^ 64 → (count_of list).characters + length line.columns < 2 ^ 64
+    → (count_of list).marks + (line_count line).marks + 1 < 2 ^ 64
+    → IsCounted (plus (count_of list) (count_of (with_mark number place line ∷ [])))
+marked-counted list line number place lines characters marks =
+    let len = finite.len line.marks in
+    let more = subst (λ n. n ≤ suc len) (sym (finite.len-insert nat_cmp_total line.marks number place))
+    (few-more (finite.contains_key line.marks number) len len (omega arith)) in
+    record {
+      lines = omega (arith, lines);
+      characters = omega (arith, characters);
+      marks = omega (arith, marks, more);
+    }
 
 -- ---- a slot that is toggled at a column where it isn't on as it is to be
 pub switched-if : (was on : Bool) (slot column : ℕ) (tags : Slots) (line : LineContent) → column < length line.columns →
@@ -214,34 +160,19 @@ module _ {list : List LineContent} {offset k column : ℕ} {here : LineContent} 
       (toggled-empty end set.empty one refl ∙ toggled-empty column set.empty (with_toggled end set.empty one) refl)
       (shared-untoggled untoggled)
 
-  pub mark-changed : {number : MarkNo} {place old : Place} → place.offset ≡ offset →
-      offset ≤ length (whole list).columns → finite.get here.marks number.0 ≡ Some old
-      → IsChangedBy (PutMark number place) list (record {
-        taken = None;
+  pub mark-changed : {number : MarkNo} {place : Place} → place.offset ≡ offset → offset ≤ length (whole list).columns →
+      IsChangedBy (PutMark number place) list (record {
+        taken = Some number;
         index = k;
         line = with_mark number.0 (record place { offset = column }) here;
       })
-  mark-changed {number} {place} {old} stands most has =
-      let n = number.0 in
-      let before = take k list in
-      let behind = drop (k + 1) list in
-      let new = with_mark n (record place { offset = column }) here in
-      let rows = subst AreRows (sym (split-lent list k here is)) are.rows in
+  mark-changed {number} {place} stands most =
       let at : IsAt list place.offset k column = record {
         behind = stands ∙ holds.behind;
         within = holds.within;
         inside = λ more. holds.inside;
       } in
-      let moved = marked-changed {here = here} {new = new} are at is (omega (arith, stands, most)) refl in
-      let same : spliced k 1 (new ∷ []) (map (without_mark n) list) ≡ spliced k 1 (new ∷ []) list =
-      ap₂ (λ xs ys. xs ++ (new ∷ []) ++ ys)
-      (take-map (without_mark n) k list ∙ free-before n before here behind old rows has)
-      (drop-map (without_mark n) (k + 1) list ∙ free-after n here behind old (rows-from before here behind rows) has) in
-      record {
-        within = moved.within;
-        rows = subst AreRows same moved.rows;
-        whole = ap whole (sym same) ∙ moved.whole;
-      }
+      marked-changed are at is (omega (arith, stands, most)) refl
 
   pub reset-changed : {to end : ℕ} {slot : TagSlot} {on first last : Bool} → offset < to →
       to ≤ length (whole list).columns → end ≡ column + (to - offset) → end < length here.columns
@@ -279,6 +210,29 @@ module _ {list : List LineContent} {offset k column : ℕ} {here : LineContent} 
     counted = counted;
     marks = marks;
   }
+
+  -- the mark can be put into the line
+  pub can-mark : {number : MarkNo} {place : Place} → place.offset ≡ offset → offset ≤ length (whole list).columns →
+      IsCounted (plus (count_of list) (count_of (with_mark number.0 (record place { offset = column }) here ∷ [])))
+      → CanMark list number.0 k (record place { offset = column })
+  can-mark {number} {place} stands most counted =
+      let new = with_mark number.0 (record place { offset = column }) here in
+      let inside = column-inside are holds is in
+      record {
+        line = here;
+        is = is;
+        fits = omega (arith, inside);
+        are = (change-can (record { taken = Some number; index = k; line = new }) are (mark-changed stands most)
+            counted).are;
+        counted = counted;
+      }
+
+pub marked-new : {number : MarkNo} {place : Place} {list new : List LineContent} {k : ℕ} {line : LineContent} →
+    IsChangedBy (PutMark number place) list (record { taken = Some number; index = k; line = line })
+    → place.offset ≤ length (whole list).columns → new ≡ spliced k 1 (line ∷ []) (map (without_mark number.0) list)
+    → content_of new ≡ after (PutMark number place ∷ []) (content_of list)
+marked-new {number = number} {k = k} {line = line} changed most is =
+    ap content_of is ∙ change-new (record { taken = Some number; index = k; line = line }) changed most
 
 pub edited-new : {step : Step} {list new : List LineContent} {k : ℕ} {line : LineContent} →
     IsChangedBy step list (record { taken = None; index = k; line = line })

@@ -13,14 +13,14 @@ use crate::newlines::find_newline;
 use segments::Line;
 use std::alloc::AllocError;
 
-/// So many lines of a long text tell about how many there will be.
+/// The number of lines of a long text from which the number of all its lines is estimated.
 const SAMPLE: usize = 512;
 
-/// A line is taken to have so many bytes at least, so that a text whose first lines are empty doesn't ask for many
+/// The minimum length of a line, in bytes, in an estimate: a text whose first lines are empty otherwise reserves many
 /// times what it needs.
 const SHORT: usize = 8;
 
-/// About how many lines so many bytes have that follow so many of the first lines, and a few more.
+/// Estimates the number of lines in `ahead` bytes that follow the first `SAMPLE` lines, `passed` bytes, and adds some.
 fn lines_ahead(passed: usize, ahead: usize) -> usize {
     let count = ahead / (passed / SAMPLE).max(SHORT);
     count.saturating_add(count / 16)

@@ -9,6 +9,7 @@ pub mod laws;
 mod line_changes;
 mod line_vec;
 mod lists;
+mod mark_edit;
 mod marks;
 mod newlines;
 mod pieces;
@@ -20,4 +21,5 @@ mod within;
 
 pub use line_vec::LineVec;
 pub use lists::LineList;
+pub use mark_edit::MarkEdit;
 pub use store::{Change, LineStore};

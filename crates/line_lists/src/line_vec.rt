@@ -13,7 +13,7 @@ ghost use Rattle.line_lists.specs.Texts.{whole};
 use crate::lists::LineList;
 use segments::{Line, LineEdit};
 use std::alloc::{AllocError, Global};
-use text_model::{MarkNo, TagSet, TagSlot, WORDS};
+use text_model::{MarkNo, Place, TagSet, TagSlot, WORDS};
 use toggle_sums::{Summary, Sums};
 
 /// The lines of a text in a plain `Vec`, whose sums are added up as they are asked for. Other lists are judged by it.
@@ -250,6 +250,14 @@ impl LineList for LineVec {
     fn edit_line<E: LineEdit>(&mut self, index: usize, edit: &E) -> Result<(), AllocError> {
         let mut line = self.lines[index].try_clone()?;
         edit.make(&mut line)?;
+        self.lines[index] = line;
+        Ok(())
+    }
+
+    fn move_mark(&mut self, number: MarkNo, index: usize, place: Place) -> Result<(), AllocError> {
+        let mut line = self.lines[index].try_clone()?;
+        line.put_mark(number, place)?;
+        take_marks(&mut self.lines, number);
         self.lines[index] = line;
         Ok(())
     }

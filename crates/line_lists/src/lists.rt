@@ -7,7 +7,7 @@ ghost use Rattle.std.specs.FinSet as set;
 ghost use Rattle.text_model.specs.TagBits.{slot_count};
 ghost use Rattle.toggle_sums.specs.Counts.{IsBare, plus};
 ghost use Rattle.segments.specs.Columns.{LineContent, characters, plain_line};
-ghost use Rattle.line_lists.specs.Changes.{CanEdit};
+ghost use Rattle.line_lists.specs.Changes.{CanEdit, CanMark, lines_marked};
 ghost use Rattle.line_lists.specs.Edits.{without_mark};
 ghost use Rattle.line_lists.specs.Lists.{AreLines, Holds, IsCounted, IsMarked, NumbersBelow, count_of, has_mark};
 ghost use Rattle.line_lists.specs.Lists.{has_marks, has_toggle, more_lines, next_line, previous_line, row_of};
@@ -16,7 +16,7 @@ ghost use Rattle.line_lists.specs.Texts.{whole};
 
 use segments::{Line, LineEdit};
 use std::alloc::{AllocError, Global};
-use text_model::{MarkNo, TagSet, TagSlot, WORDS};
+use text_model::{MarkNo, Place, TagSet, TagSlot, WORDS};
 use toggle_sums::Sums;
 
 /// A list of the lines of a text, at least one, each with its newline at its end and no other.
@@ -204,6 +204,15 @@ pub trait LineList: Drop {
         ensures made { OnOk result ((line : LineContent) → slice_get (lines self.old) index ≡ Some line →
             lines self.new ≡ spliced index 1 (E.edited edit.now line ∷ []) (lines self.old)) }
         ensures refused { OnErr result (lines self.new ≡ lines self.old) };
+
+    /// Puts the mark of a number at a place of a line, whose offset is a column, wherever the mark is, or as a new one.
+    /// If memory is refused, all is as it was.
+    fn move_mark(&mut self, number: MarkNo, index: usize, place: Place) -> Result<(), AllocError>
+        requires { CanMark (lines self.old) number.0 index place }
+        ensures made { OnOk result ((line : LineContent) → slice_get (lines self.old) index ≡ Some line →
+            lines self.new ≡ lines_marked number.0 index place line (lines self.old)) }
+        ensures refused { OnErr result (lines self.new ≡ lines self.old) }
+        ensures numbers { mark_room self.old ≤ mark_room self.new };
 
     /// Puts lines in the place of so many from one on: only those beyond these take room, in one row.
     fn splice(&mut self, from: usize, count: usize, new: Vec<Line>)

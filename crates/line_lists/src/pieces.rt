@@ -148,6 +148,18 @@ pub fn count_longer<L: LineList>(list: &L, line: &Line, more: usize) -> Result<(
     Ok(())
 }
 
+/// Makes sure that a list can be counted together with one of its lines that has a mark more.
+pub fn count_marked<L: LineList>(list: &L, line: &Line) -> Result<(), AllocError>
+    ensures lines { OnOk result ((count_of (L.lines list.now)).lines + 1 < 2 ^ 64) }
+    ensures characters { OnOk result ((count_of (L.lines list.now)).characters + length line.now.columns < 2 ^ 64) }
+    ensures marks { OnOk result ((count_of (L.lines list.now)).marks + (line_count line.now).marks + 1 < 2 ^ 64) }
+{
+    count_longer(list, line, 0)?;
+    let marks = list.marks() + line.marks();
+    marks.checked_add(1).ok_or(AllocError)?;
+    Ok(())
+}
+
 /// Makes sure that a list and copies of its lines can be counted together.
 fn count<L: LineList>(list: &L, stops: &[Stop]) -> Result<(), AllocError>
     ensures { OnOk result (IsCounted (plus (count_of (L.lines list.now))

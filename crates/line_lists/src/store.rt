@@ -328,8 +328,8 @@ impl<L: LineList> TextStore for LineStore<L> {
         within::tag_within(&mut self.list, from, to, slot, is_on)
     }
 
-    fn mark_within(&mut self, number: MarkNo, place: Place) -> Result<bool, AllocError> {
-        within::mark_within(&mut self.list, number, place)
+    fn move_mark(&mut self, number: MarkNo, place: Place) -> Result<bool, AllocError> {
+        within::move_mark(&mut self.list, number, place)
     }
 
     fn prepare(&mut self, edit: &Edit) -> Result<Change, AllocError> {

@@ -1,5 +1,5 @@
-//! Edits of one line that are made in it where it lies, as `TextStore` has them: without a copy of the line, and
-//! without a second look-up.
+//! Edits that are made in lines where they lie, as `TextStore` has them: without a copy of the line, and without a
+//! second look-up.
 
 ghost use Rattle.std.specs.Prelude.{◌≡◌, ◌∷◌, [], ◌<◌, ◌≤◌, IfOk, OnErr, chars, false, length, true};
 ghost use Rattle.text_model.specs.Content.{shared_slots};
@@ -11,31 +11,11 @@ ghost use Rattle.line_lists.specs.Texts.{content_of};
 use crate::insertions::cut_line;
 use crate::line_changes::is_on_before;
 use crate::lists::LineList;
-use crate::pieces::count_longer;
+use crate::pieces::{count_longer, count_marked};
 use crate::queries;
-use segments::{InsertText, Line, LineEdit, RemoveRange, ResetToggles};
+use segments::{InsertText, RemoveRange, ResetToggles};
 use std::alloc::AllocError;
 use text_model::{MarkNo, Place, TagSlot};
-
-/// Moves the mark of a number, which stands in the line, to a place in it.
-#[derive(Clone, Copy)]
-struct MoveMark {
-    number: MarkNo,
-    place: Place,
-}
-
-impl LineEdit for MoveMark {
-    ghost use Rattle.std.specs.Prelude.{◌≤◌, length};
-    ghost use Rattle.line_lists.specs.Edits.{with_mark};
-
-    ghost fits = { λ edit line. edit.place.offset ≤ length line.columns };
-
-    ghost edited = { λ edit line. with_mark edit.number.0 edit.place line };
-
-    fn make(&self, line: &mut Line) -> Result<(), AllocError> {
-        line.put_mark(self.number, self.place)
-    }
-}
 
 /// Inserts a text before the character at an offset, with the slots that the characters on both sides share, unless it
 /// has a newline or a slot is toggled there. Returns whether it did.
@@ -125,8 +105,9 @@ pub fn tag_within<L: LineList>(
     Ok(true)
 }
 
-/// Puts the mark of a number at a place in the line in which it stands already. Returns whether it did.
-pub fn mark_within<L: LineList>(
+/// Puts the mark of a number at a place, wherever it is, or as a new one, unless that is the end of the text. Returns
+/// whether it did.
+pub fn move_mark<L: LineList>(
     list: &mut L,
     number: MarkNo,
     place: Place,
@@ -141,18 +122,11 @@ pub fn mark_within<L: LineList>(
         return Ok(false);
     }
     let (index, column) = list.seek(place.offset);
-    let line = list.line(index);
-    if line.mark_place(number).is_none() {
-        return Ok(false);
-    }
-    let edit = MoveMark {
-        number,
-        place: Place {
-            offset: column,
-            gravity: place.gravity,
-        },
+    count_marked(list, list.line(index))?;
+    let there = Place {
+        offset: column,
+        gravity: place.gravity,
     };
-    count_longer(list, line, 0)?;
-    list.edit_line(index, &edit)?;
+    list.move_mark(number, index, there)?;
     Ok(true)
 }

@@ -13,7 +13,7 @@ pub use Rattle.line_lists.proofs.LineChangeLaws.{spliced-fits}
 pub use Rattle.line_lists.proofs.SearchRows.{FailFrom, NextAt, PreviousAt, line_at, next-found, next-none}
 pub use Rattle.line_lists.proofs.SearchRows.{previous-found, previous-none}
 pub use Rattle.line_lists.proofs.VecLaws.{lines-are-without, new-lines, whole-without}
-pub use Rattle.line_lists.specs.Edits.{without_mark}
+pub use Rattle.line_lists.specs.Edits.{with_mark, without_mark}
 pub use Rattle.line_lists.specs.Lists.{AreLines, AreRows, IsCounted, IsMarked, NumbersBelow, count_of, has_mark}
 pub use Rattle.line_lists.specs.Lists.{has_marks, more_lines, next_line, previous_line, row_of, spliced}
 pub use Rattle.line_lists.specs.Texts.{whole}
@@ -30,6 +30,7 @@ pub use Rattle.line_tree.specs.LastLines.{IsThere}
 pub use Rattle.line_tree.specs.Leaving.{Leaves}
 pub use Rattle.line_tree.specs.Locating.{IsPlaceAt, characters_at, characters_below}
 pub use Rattle.line_tree.specs.MarkTable.{AreBare, IsMarkedBelow, IsTable, holder, lines_without, noted}
+pub use Rattle.line_tree.specs.Moving.{IsAloneAt, IsElsewhere, all_without, moved_to}
 pub use Rattle.line_tree.specs.Nearest.{passes, shows}
 pub use Rattle.line_tree.specs.Places.{Begins, IsChild, IsLineAt, Sits, characters_before, line_names, lines_before}
 pub use Rattle.line_tree.specs.Raising.{Becomes, CanLift, CanRaise, CanTakeRow, HasKids, HasSlots, Lifted, Lifts}

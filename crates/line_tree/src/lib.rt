@@ -15,6 +15,7 @@ mod levels;
 mod line;
 mod locate;
 mod mark_names;
+mod moving;
 mod nearest;
 mod prefix;
 mod put_row;

@@ -30,6 +30,7 @@ pub fn name_of(names: &[Option<NodePtr>], number: MarkNo) -> Option<NodePtr>
 pub fn grow(names: &mut Vec<Option<NodePtr>>, numbers: usize) -> Result<(), AllocError>
     ensures same { (number : ℕ) → noted number names.new.items ≡ noted number names.old.items }
     ensures numbers { OnOk result (numbers ≤ length names.new.items) }
+    ensures more { length names.old.items ≤ length names.new.items }
 {
     if names.len() < numbers {
         names.resize(numbers, None)?;

@@ -12,13 +12,14 @@ ghost use Rattle.line_tree.specs.Trees.{contents};
 
 use crate::last_line::LastLine;
 use crate::mark_names::{forget, grow, name_of, note, write};
+use crate::moving::move_mark;
 use crate::starts::Placed;
 use crate::tree::LineTree;
 use line_lists::LineList;
 use raw_nodes::{NodePtr, Steps};
 use segments::{Line, LineEdit};
 use std::alloc::{AllocError, Global};
-use text_model::{MarkNo, TagSet, TagSlot, WORDS};
+use text_model::{MarkNo, Place, TagSet, TagSlot, WORDS};
 use toggle_sums::Sums;
 
 /// The lines of a text as a balanced tree, and for each mark the name of its line.
@@ -267,6 +268,21 @@ impl LineList for TreeLines {
     fn edit_line<E: LineEdit>(&mut self, index: usize, edit: &E) -> Result<(), AllocError> {
         let Placed { name, start } = self.place(index);
         self.tree.edit_named(name, edit, &mut Steps::new())?;
+        let end = start + self.tree.line(name).len();
+        self.last = Some(LastLine {
+            index,
+            name,
+            start,
+            end,
+        });
+        Ok(())
+    }
+
+    fn move_mark(&mut self, number: MarkNo, index: usize, place: Place) -> Result<(), AllocError> {
+        let Placed { name, start } = self.place(index);
+        grow(&mut self.names, number.0 as usize + 1)?;
+        move_mark(&mut self.tree, &self.names, number, name, place)?;
+        self.names[number.0 as usize] = Some(name);
         let end = start + self.tree.line(name).len();
         self.last = Some(LastLine {
             index,

@@ -205,9 +205,9 @@ pub trait TextStore: Drop {
         Ok(false)
     }
 
-    /// Puts the mark of a number at a place, wherever it stood, where that can be made in one line as `put_within` does
-    /// it.
-    fn mark_within(&mut self, _number: MarkNo, _place: Place) -> Result<bool, AllocError>
+    /// Puts the mark of a number at a place, wherever it is, or as a new one, if the store can do that without a plan,
+    /// as `put_within` does its edit.
+    fn move_mark(&mut self, _number: MarkNo, _place: Place) -> Result<bool, AllocError>
         requires { _place.offset ≤ length (content self.old).cells }
         ensures made { IfOk result (λ is_made. is_made ≡ true →
             content self.new ≡ after (PutMark _number _place ∷ []) (content self.old)) }

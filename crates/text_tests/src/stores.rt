@@ -337,7 +337,7 @@ fn makes_at_once<S: TextStore>(alloc: Global) -> Result<bool, AllocError> {
         gravity: Gravity::Left,
     };
     let edit = edit_of(alloc, &[PlainStep::PutMark(7, 3, Gravity::Right)])?;
-    if !make(&mut store, &edit)? || !store.mark_within(MarkNo(7), start)? || store.len() != 5 {
+    if !make(&mut store, &edit)? || !store.move_mark(MarkNo(7), start)? || store.len() != 5 {
         return Ok(false);
     }
     if !store.tag_within(1, 3, SLOTS[2], true)? || store.len() != 5 || !store.take_within(0, 1)? {
@@ -348,6 +348,102 @@ fn makes_at_once<S: TextStore>(alloc: Global) -> Result<bool, AllocError> {
     }
     let is_tagged = store.has_tag(1, SLOTS[2]) && !store.has_tag(2, SLOTS[2]);
     Ok(is_tagged && store.copy_text(0, 4)?.as_str() == "bcd\n")
+}
+
+// A mark that is put at an offset: its number, and whether a store over lines puts it there at once.
+struct MarkRow {
+    number: u16,
+    offset: usize,
+    gravity: Gravity,
+    is_put: bool,
+}
+
+// In a text of the lines `ab` and `cd`.
+static MARK_ROWS: [MarkRow; 7] = [
+    // A new mark, within its line, in another line, and back before a newline.
+    MarkRow {
+        number: 7,
+        offset: 1,
+        gravity: Gravity::Right,
+        is_put: true,
+    },
+    MarkRow {
+        number: 7,
+        offset: 0,
+        gravity: Gravity::Left,
+        is_put: true,
+    },
+    MarkRow {
+        number: 7,
+        offset: 4,
+        gravity: Gravity::Left,
+        is_put: true,
+    },
+    MarkRow {
+        number: 7,
+        offset: 2,
+        gravity: Gravity::Right,
+        is_put: true,
+    },
+    // Another one, where that was and where it is.
+    MarkRow {
+        number: 900,
+        offset: 4,
+        gravity: Gravity::Left,
+        is_put: true,
+    },
+    MarkRow {
+        number: 900,
+        offset: 2,
+        gravity: Gravity::Left,
+        is_put: true,
+    },
+    // The end of the text.
+    MarkRow {
+        number: 900,
+        offset: 6,
+        gravity: Gravity::Right,
+        is_put: false,
+    },
+];
+
+static MARKS_PUT: [Row; 7] = [
+    (Query::Size, 0, (6, 2)),
+    (Query::Mark, 7, (2, 1)),
+    (Query::Mark, 900, (2, 0)),
+    (Query::Mark, 901, (NONE, 0)),
+    (Query::MarksNear, 2, (NONE, 2)),
+    (Query::MarksNear, 3, (2, NONE)),
+    (Query::MarksAt(0), 2, (7, 900)),
+];
+
+fn put_marks<S: TextStore>(
+    rt: &impl Abort,
+    store: &mut S,
+    rows: &[MarkRow],
+) -> Result<(), AllocError> {
+    for row in rows {
+        let (offset, gravity) = (row.offset, row.gravity);
+        assert!(rt; offset <= store.len());
+        let is_put = store.move_mark(MarkNo(row.number), Place { offset, gravity })?;
+        assert!(rt; is_put == row.is_put);
+    }
+    Ok(())
+}
+
+// The marks of all rows, put one after the other.
+fn check_marks<S: TextStore>(rt: &impl Abort, alloc: Global) -> Result<(), AllocError> {
+    let mut store: S = store_of(rt, alloc, &[PlainStep::Insert(0, "ab\ncd", &[])])?;
+    put_marks(rt, &mut store, &MARK_ROWS)?;
+    check_rows(rt, &store, &MARKS_PUT);
+    Ok(())
+}
+
+#[test]
+fn marks_are_put_at_once(rt: HostRuntime) -> Result<(), Fail> {
+    check_marks::<LineStore<LineVec>>(&rt, rt.alloc())?;
+    check_marks::<TreeStore>(&rt, rt.alloc())?;
+    Ok(())
 }
 
 #[test]
