@@ -8,7 +8,7 @@ use search_dump::{Counted, Listed, SearchSwitches, Sight, Wanted, count, dump, s
 use std::alloc::Global;
 use std::process::Abort;
 use std::test::Fail;
-use text_index::{Names, View, change_after, parse, push_index, resolve};
+use text_index::{Names, View, change_after, locate, parse, push_index, resolve};
 use text_model::{PlainStore, TagSet, TagSlot, TextStore};
 
 // An index, and the place that it stands for as an index is printed.
@@ -58,6 +58,9 @@ fn check_index(rt: &impl Abort, alloc: Global, scene: &Scene, row: &Indexed) -> 
     let view = whole_view(rt, &scene.store);
     let index = parse(alloc, row.word, &names_of(scene))?;
     let place = resolve(&index, &view)?;
+    assert!(rt; view.store.len() < usize::MAX);
+    let located = locate(row.word, &names_of(scene), &view)?;
+    assert!(rt; located == place, "{located}");
     let mut text = String::new(alloc);
     push_index(&mut text, &view, place)?;
     assert!(rt; text.as_str() == row.place, "{text}");

@@ -1,10 +1,9 @@
 -- A mark that is moved by its number in the store.
 use Rattle.documents.proofs.Common.{◌≡◌, ℕ, ◌+◌, ◌*◌, ◌≤◌, true, false, List, length, refl, sym, ap, ap₂, ◌∙◌, subst}
-use Rattle.documents.proofs.Common.{inl, inr, codes, bytes_eq, is_some, if◌then◌else◌}
-use Rattle.documents.proofs.Common.{none-some, same_Some, number_of, known_marks, Place, Content, LimitTable, Empty}
-use Rattle.documents.proofs.Common.{is_same, literal, Document, Parts, Widget, widget_at, Stands, place_named}
-use Rattle.documents.proofs.Common.{set_found, with_current, with_insert, with_mark, with_shared, answered}
-use Rattle.documents.proofs.Common.{Option, None, Some, Ok}
+use Rattle.documents.proofs.Common.{inl, inr, codes, bytes_eq, is_some, if◌then◌else◌, none-some, same_Some, number_of}
+use Rattle.documents.proofs.Common.{known_marks, Place, Content, LimitTable, Empty, is_same, literal, Document, Parts}
+use Rattle.documents.proofs.Common.{Widget, widget_at, Stands, place_named, set_found, with_current, with_insert}
+use Rattle.documents.proofs.Common.{with_mark, with_shared, answered, Option, None, Some, Ok}
 use Rattle.documents.proofs.ChangeLaws.{Leaves}
 use Rattle.documents.proofs.MarkLaws.{leaves-current, leaves-insert, leaves-moved, put_in}
 use Rattle.documents.proofs.MarkQueryLaws.{IsShared, place-current, place-insert, place-known, place-none}

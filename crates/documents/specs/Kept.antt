@@ -29,7 +29,7 @@ pub record HasOwnMarks (places : Marks) (seat : Named) : Type 0 where
   pub current : is_some (finite.get places (2 * seat.number + 1)) ≡ true
 
 -- Each widget has a window's name and a slot of its own. The text is a document's and no longer than any text may be,
--- marks stand in it, among them each widget's own two, and its characters have the slots of widgets and tags alone.
+-- marks are in it, among them each widget's own two, and its characters have the slots of widgets and tags alone.
 pub record IsKept (widgets : Names) (table : Tags) (content : Content) : Type 0 where
   pub seats : AreSeats widgets.entries
   pub slots : widgets.limit ≡ most_widgets

@@ -41,7 +41,7 @@ impl<S: TextStore> Document<S> {
             widget: TagSlot(slot),
         };
         let view = view_of(&self.text.store, &self.text.anchors, slot);
-        at_position(position, locate(self.alloc, word, &names, &view))
+        at_position(position, locate(word, &names, &view))
     }
 
     /// Returns what `place_at` does, and has the store look up the line of the index, so that the calls after this one
@@ -60,7 +60,7 @@ impl<S: TextStore> Document<S> {
         };
         let start = start_of(&self.text.anchors, slot);
         let end = end_of(&self.text.anchors, slot, self.text.store.len());
-        let found = seek(self.alloc, word, &names, &mut self.text.store, start, end);
+        let found = seek(word, &names, &mut self.text.store, start, end);
         at_position(position, found)
     }
 
@@ -74,6 +74,7 @@ impl<S: TextStore> Document<S> {
     }
 
     /// A place as `line.char`.
+    #[inline(always)]
     pub fn position_of(&self, seat: usize, place: usize) -> Result<Text, AllocError>
         requires shown { seat < length self.now.widgets }
         requires within { place ≤ length (shown self.now (widget_at self.now seat)) }

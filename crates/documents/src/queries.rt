@@ -38,6 +38,7 @@ impl<S: TextStore> Document<S> {
     }
 
     /// How much further one place is than another, as a list of numbers.
+    #[inline(always)]
     pub fn counts_of(
         &self,
         seat: usize,

@@ -6,8 +6,7 @@ use Rattle.index_grammar.proofs.Common.{if◌then◌else◌, MatchOption, ends_w
 use Rattle.index_grammar.proofs.Common.{length-drop, length-take, length-append, append-nil, bytes_eq-Decides}
 use Rattle.index_grammar.proofs.Common.{encodes-chars, IsUtf8-take, IsCharBoundary-before_ascii, Mark, closes, IsBound}
 use Rattle.index_grammar.proofs.Common.{marked, tagged, known_marks, known_tags, min, ◌==◌, Option, Some, None}
-use Rattle.index_grammar.proofs.Common.{append_assoc}
-use Rattle.std.specs.Borrow.{Bor}
+use Rattle.index_grammar.proofs.Common.{append_assoc, Bor}
 use Rattle.std.proofs.Math.Seq.{get_or-append_seam}
 use Rattle.tag_table.specs.Tags.{Tag}
 use Rattle.index_grammar.proofs.CharLaws.{break-boundary}

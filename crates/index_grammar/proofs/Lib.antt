@@ -4,6 +4,7 @@ pub mod ClosedLaws
 pub mod Common
 pub mod FindLaws
 pub mod FrontLaws
+pub mod FrontNumberLaws
 pub mod GrammarRows
 pub mod LongestLaws
 pub mod LowLaws

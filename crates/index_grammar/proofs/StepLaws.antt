@@ -1,6 +1,6 @@
 -- The first modifier of a list of tokens.
 use Rattle.index_grammar.proofs.Common.{◌≡◌, ℕ, Bool, true, false, List, [], ◌∷◌, ◌++◌, Option, Some, None, refl, sym}
-use Rattle.index_grammar.proofs.Common.{ap, ◌∙◌, append_assoc, bytes_eq, codes, option_map, if◌then◌else◌, append-nil}
+use Rattle.index_grammar.proofs.Common.{ap, ◌∙◌, append_assoc, bytes_eq, codes, option_map, if◌then◌else◌}
 use Rattle.index_grammar.proofs.Common.{bytes_eq-Decides, Token, modifiers_of, before, counted, number_of}
 use Rattle.index_grammar.proofs.Common.{saturated_modifier, keyword_of, abbreviates, Sign, Digits, Word, digits_first}
 use Rattle.index_grammar.proofs.Common.{unit_first, saturated, after, Modifier, length, ◌==◌, arith, tokens_of}
@@ -110,9 +110,6 @@ pub after-step : (first : List Modifier) (m : Modifier) (others : Option (List M
     after first (before (Some m) others) ≡ after (first ++ m ∷ []) others
 after-step first m None = refl
 after-step first m (Some ms) = ap Some (sym (append_assoc first (m ∷ []) ms))
-
-pub after-none : (ms : List Modifier) → after ms (Some []) ≡ Some ms
-after-none ms = ap Some (append-nil ms)
 
 keywords : (a b c d : Bool) → option_map saturated_modifier (if a then Some modifier.LineStart
     else (if b then Some modifier.LineEnd else (if c then Some modifier.WordStart

@@ -46,3 +46,12 @@ whole-bad marks tags text rest b is later =
           no-steps found.0 (modifiers_of (tokens_of (drop found.1 text)))
           (ap (λ t. saturated (modifiers_of (tokens_of t))) same ∙ later)
     ] is
+
+pub whole-none : (marks tags : List ℕ → Option ℕ) (text : List ℕ) → read_of text (base_of marks tags text) ≡ None →
+    index_of marks tags text ≡ None
+whole-none marks tags text none =
+    elim (base_of marks tags text) as (λ o. read_of text o ≡ None → option_and_then (λ (found : Base × ℕ).
+    option_map {U = WholeIndex} (λ ms. (found.0, ms)) (modifiers_of (tokens_of (drop found.1 text)))) o ≡ None) [
+      | None ↦ λ _. refl
+      | Some found ↦ λ there. absurd (let h : Some _ ≡ None = there in cc)
+    ] none

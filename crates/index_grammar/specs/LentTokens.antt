@@ -1,7 +1,10 @@
 -- The tokens that the pieces of a text are.
-use Rattle.std.specs.Prelude.{ℕ, List, [], ◌∷◌, length, codes, bytes_eq, Option, Some, None, option_map}
+use Rattle.std.specs.Prelude.{ℕ, List, [], ◌∷◌, take, drop, length, codes, bytes_eq, Option, Some, None, option_map}
 use Rattle.std.specs.Prelude.{option_and_then, if◌then◌else◌}
 use Rattle.std.specs.Borrow.{Bor}
+use Rattle.std.specs.List.{prefix_len}
+use Rattle.std.specs.Char.{is_ascii_digit}
+use Rattle.index_grammar.specs.Characters.{is_blank}
 use Rattle.index_grammar.specs.Grammar.{Token, tokens_of}
 use Rattle.index_grammar.specs.declared.tokens.LentToken.{LentToken}
 use Rattle.index_grammar.specs.declared.tokens.LentToken.TheVariants as piece
@@ -26,6 +29,12 @@ before_rest (Some found) = token_of found.0 ∷ tokens_of found.1.now
 abbrev pub digits_first : List Token → Option (List ℕ × List Token)
 digits_first (Token.Digits digits ∷ tokens) = Some (digits, tokens)
 digits_first _ = None
+
+-- the digits that a text begins with after its blanks
+abbrev pub front_digits : List ℕ → List ℕ
+front_digits text =
+    let rest = drop (prefix_len is_blank text) text in
+    take (prefix_len is_ascii_digit rest) rest
 
 abbrev pub word_first : List Token → Option (List ℕ × List Token)
 word_first (Token.Word word ∷ tokens) = Some (word, tokens)

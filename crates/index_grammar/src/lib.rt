@@ -14,4 +14,5 @@ mod tokens;
 pub use faults::IndexFault;
 pub use indices::{Base, Direction, Index, Modifier, Modifiers, Unit};
 pub use names::Names;
-pub use parsing::parse;
+pub use parsing::{find_base, parse};
+pub use steps::next_modifier;

@@ -2,7 +2,8 @@
 
 ghost use Rattle.std.specs.Prelude.{◌≡◌, ◌≢◌, ◌<◌, None, Some, chars, IfOk, IfErr, IfSome};
 ghost use Rattle.text_model.specs.declared.limits.TheConstants.Limits.{MOST_WIDGETS};
-ghost use Rattle.index_grammar.specs.Grammar.{base_of, index_of};
+ghost use Rattle.std.specs.Option.{option_or};
+ghost use Rattle.index_grammar.specs.Grammar.{base_of, index_of, longest_front, marked, tagged};
 ghost use Rattle.index_grammar.specs.Names.{known_marks, known_tags};
 ghost use Rattle.index_grammar.specs.Reading.{read_of, found_of};
 ghost use Rattle.index_grammar.specs.Steps.{saturated_index};
@@ -17,9 +18,26 @@ use crate::places::find_place;
 use crate::steps::read_steps;
 use std::alloc::Global;
 
-/// The base of the index that a word is, and what stands behind it: a place in a line or the end, else the longest
-/// mark, else the longest tag.
-fn find_base<'a>(word: &'a str, names: &Names) -> Option<(Base, &'a str)>
+/// Reads the longest mark that a word begins with, else the longest tag. Returns it with what follows it.
+fn find_named<'a>(word: &'a str, names: &Names) -> Option<(Base, &'a str)>
+    requires { names.now.widget.0 < MOST_WIDGETS }
+    ensures value { read_of (chars word.now) (option_or
+        (longest_front (marked (known_marks names.now.marks.now.marks names.now.widget.0)) (chars word.now))
+        (longest_front (tagged (known_tags names.now.tags.now.tags names.now.widget.0)) (chars word.now)))
+        ≡ found_of result }
+    ensures slot { IfSome result (λ found. HasSlot found.0) }
+{
+    if let Some(found) = find_longest(word, Form::Mark, names) {
+        return Some(found);
+    }
+    find_longest(word, Form::Tag, names)
+}
+
+/// Reads the base that a word begins with (text(n), "INDICES"): a place in a line or the end, else the longest mark,
+/// else the longest tag. Returns it with what follows it, which `next_modifier` reads. Numbers above the maximum of
+/// `usize` read as that.
+#[inline(always)]
+pub fn find_base<'a>(word: &'a str, names: &Names) -> Option<(Base, &'a str)>
     requires { names.now.widget.0 < MOST_WIDGETS }
     ensures value { read_of (chars word.now) (base_of (known_marks names.now.marks.now.marks names.now.widget.0)
         (known_tags names.now.tags.now.tags names.now.widget.0) (chars word.now)) ≡ found_of result }
@@ -28,10 +46,7 @@ fn find_base<'a>(word: &'a str, names: &Names) -> Option<(Base, &'a str)>
     if let Some(found) = find_place(word) {
         return Some(found);
     }
-    if let Some(found) = find_longest(word, Form::Mark, names) {
-        return Some(found);
-    }
-    find_longest(word, Form::Tag, names)
+    find_named(word, names)
 }
 
 /// The index that a word is (text(n), "INDICES"). Numbers above the greatest `usize` read as that.

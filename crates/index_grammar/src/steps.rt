@@ -1,18 +1,18 @@
 //! Reads the modifiers of an index: counts of characters, indices or lines, and abbreviated keywords.
 
-ghost use Rattle.std.specs.Prelude.{◌≡◌, ◌≢◌, ◌≤◌, ◌+◌, ◌∷◌, length, None, Some, IfOk, IfErr, IfSome, IsTrue};
-ghost use Rattle.std.specs.Prelude.{option_map};
+ghost use Rattle.std.specs.Prelude.{◌≡◌, ◌≢◌, ◌<◌, ◌≤◌, ◌+◌, ◌∷◌, ℕ, min, length, Option, None, Some, IfOk, IfErr};
+ghost use Rattle.std.specs.Prelude.{IfSome, IsTrue, option_map};
 ghost use Rattle.index_grammar.specs.Grammar.{abbreviates, unit_of, keyword_of, tokens_of, modifiers_of};
 ghost use Rattle.index_grammar.specs.Grammar as grammar;
 ghost use Rattle.index_grammar.specs.LentTokens.{token_of, piece_len};
-ghost use Rattle.index_grammar.specs.LentTokens.{digits_first, word_first, unit_first, bytes_first};
-ghost use Rattle.index_grammar.specs.Steps.{saturated, stepped};
+ghost use Rattle.index_grammar.specs.LentTokens.{digits_first, front_digits, word_first, unit_first, bytes_first};
+ghost use Rattle.index_grammar.specs.Steps.{left, saturated, stepped};
 ghost use Rattle.index_grammar.specs.declared.faults.IndexFault.TheVariants.{Memory, BadIndex};
 
 use crate::faults::IndexFault;
 use crate::indices::{Modifier, Modifiers, Unit};
-use crate::numbers::read_number;
-use crate::tokens::{LentToken, next_piece};
+use crate::numbers::front_number;
+use crate::tokens::{LentToken, next_piece, skip_blanks};
 use std::alloc::Global;
 
 /// Whether a word is a front of another of so many bytes at least.
@@ -57,11 +57,10 @@ fn read_keyword(word: &[u8]) -> Option<Modifier>
 }
 
 /// A count of units, forward or back.
-fn read_count(is_plus: bool, digits: &[u8], word: &[u8]) -> Option<Modifier>
-    ensures { result ≡ option_map grammar.saturated_modifier
-        (grammar.counted is_plus (grammar.number_of digits.now) word.now) }
+fn read_count(is_plus: bool, count: usize, word: &[u8]) -> Option<Modifier>
+    ensures { (number : Option ℕ) → Some count ≡ option_map (min usize.MAX) number →
+        result ≡ option_map grammar.saturated_modifier (grammar.counted is_plus number word.now) }
 {
-    let count = read_number(digits)?;
     let unit = read_unit(word)?;
     if is_plus {
         return Some(Modifier::Forward(unit, count));
@@ -69,15 +68,15 @@ fn read_count(is_plus: bool, digits: &[u8], word: &[u8]) -> Option<Modifier>
     Some(Modifier::Back(unit, count))
 }
 
-/// The digits that a text begins with, and what stands behind them.
-fn next_digits(text: &[u8]) -> Option<(&[u8], &[u8])>
-    ensures value { digits_first (tokens_of text.now) ≡ bytes_first result }
+/// Reads the digits that a text begins with, blanks before them, as a number. Returns it with what follows it.
+fn next_number(text: &[u8]) -> Option<(usize, &[u8])>
+    ensures first { digits_first (tokens_of text.now)
+        ≡ option_map (λ found. (front_digits text.now, tokens_of found.1.now)) result }
+    ensures number { option_map (λ found. found.0) result
+        ≡ option_map (min usize.MAX) (grammar.number_of (front_digits text.now)) }
     ensures bound { IfSome result (λ found. length found.1.now + 1 ≤ length text.now) }
 {
-    match next_piece(text)? {
-        (LentToken::Digits(digits), rest) => Some((digits, rest)),
-        _ => None,
-    }
+    front_number(skip_blanks(text))
 }
 
 /// The word that a text begins with, and what stands behind it.
@@ -108,9 +107,9 @@ fn read_counted(is_plus: bool, text: &[u8]) -> Option<(Modifier, &[u8])>
     ensures value { saturated (modifiers_of (grammar.Token.Sign is_plus ∷ tokens_of text.now)) ≡ stepped result }
     ensures bound { IfSome result (λ found. length found.1.now + 2 ≤ length text.now) }
 {
-    let (digits, rest) = next_digits(text)?;
+    let (count, rest) = next_number(text)?;
     let (word, rest) = next_unit(rest)?;
-    let modifier = read_count(is_plus, digits, word)?;
+    let modifier = read_count(is_plus, count, word)?;
     Some((modifier, rest))
 }
 
@@ -126,22 +125,32 @@ fn read_step<'a>(first: LentToken<'a>, text: &'a [u8]) -> Option<(Modifier, &'a 
     }
 }
 
+/// Reads the first modifier of what follows the base of an index. Returns it with what follows it, and `None` where no
+/// more than blanks are left; "bad text index" where what comes first is no modifier.
+pub fn next_modifier(text: &[u8]) -> Result<Option<(Modifier, &[u8])>, IndexFault>
+    ensures ok { IfOk result (λ found. saturated (modifiers_of (tokens_of text.now)) ≡ left found) }
+    ensures err { IfErr result (λ fault. (fault ≡ BadIndex) × (saturated (modifiers_of (tokens_of text.now)) ≡ None)) }
+    ensures bound { IfOk result (λ found. IfSome found (λ step. length step.1.now < length text.now)) }
+{
+    let Some((first, behind)) = next_piece(text) else {
+        return Ok(None);
+    };
+    match read_step(first, behind) {
+        Some(step) => Ok(Some(step)),
+        None => Err(IndexFault::BadIndex),
+    }
+}
+
 /// The modifiers that a text is.
 pub(crate) fn read_steps(alloc: Global, text: &[u8]) -> Result<Modifiers, IndexFault>
     ensures ok { IfOk result (λ steps. saturated (modifiers_of (tokens_of text.now)) ≡ Some steps) }
     ensures err { IfErr result (λ fault. fault ≢ Memory → (fault ≡ BadIndex)
         × (saturated (modifiers_of (tokens_of text.now)) ≡ None)) }
 {
-    if text.is_empty() {
-        return Ok(Modifiers::new(Vec::new(alloc)));
-    }
-    // No modifier has fewer than three bytes.
-    let mut modifiers = Vec::with_capacity(alloc, text.len() / 3)?;
+    let mut modifiers = Vec::new(alloc);
     let mut rest = text;
-    while let Some((first, behind)) = next_piece(rest) {
-        let Some((modifier, behind)) = read_step(first, behind) else {
-            return Err(IndexFault::BadIndex);
-        };
+    while let Some((modifier, behind)) = next_modifier(rest)? {
+        modifiers.reserve(1)?;
         modifiers.push(modifier).unwrap();
         rest = behind;
     }

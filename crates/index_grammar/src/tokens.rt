@@ -38,6 +38,7 @@ pub(crate) fn is_break(byte: u8) -> bool
 }
 
 /// Whether what stands before a text is closed: the text is empty, or begins with a blank, `+` or `-`.
+#[inline(always)]
 pub(crate) fn closes(text: &[u8]) -> bool
     ensures { result ≡ closes text.now }
 {
@@ -99,7 +100,7 @@ pub(crate) fn unbroken(text: &[u8]) -> usize
 }
 
 /// A text without the blanks that it begins with.
-fn skip_blanks(text: &[u8]) -> &[u8]
+pub(crate) fn skip_blanks(text: &[u8]) -> &[u8]
     ensures { result.now ≡ drop (prefix_len is_blank text.now) text.now }
 {
     text.split_at(blanks(text)).1

@@ -13,13 +13,14 @@ pub use Rattle.command_effects.specs.Settings.{end_bound, first_settings, is_beh
 pub use Rattle.command_effects.specs.Settings.{setting_read, settings_checked, settings_read, start_bound, state_of}
 pub use Rattle.command_effects.specs.Words.{is_among, is_same, literal}
 pub use Rattle.command_effects.specs.declared.answers.Answer.{Answer}
-pub use Rattle.command_effects.specs.declared.answers.Answer.TheVariants.{Empty, Text, Word}
+pub use Rattle.command_effects.specs.declared.answers.Answer.TheVariants.{Empty, Flag, Text, Word}
 pub use Rattle.command_effects.specs.declared.answers.Fault.{Fault}
-pub use Rattle.command_effects.specs.declared.answers.Fault.TheVariants.{BadBoolean, BadInteger, BadOption, IndexOrder}
-pub use Rattle.command_effects.specs.declared.answers.Fault.TheVariants.{InvalidCommandName, Memory, NoSuchTag}
-pub use Rattle.command_effects.specs.declared.answers.Fault.TheVariants.{NothingToUndo, StartLineAfterEndLine}
-pub use Rattle.command_effects.specs.declared.answers.Fault.TheVariants.{TextTooLong, TooManyMarks, TooManyTags}
-pub use Rattle.command_effects.specs.declared.answers.Fault.TheVariants.{TooManyWidgets, WindowExists}
+pub use Rattle.command_effects.specs.declared.answers.Fault.TheVariants.{BadBoolean, BadComparison, BadInteger}
+pub use Rattle.command_effects.specs.declared.answers.Fault.TheVariants.{BadOption, IndexOrder, InvalidCommandName}
+pub use Rattle.command_effects.specs.declared.answers.Fault.TheVariants.{Memory, NoSuchTag, NothingToUndo}
+pub use Rattle.command_effects.specs.declared.answers.Fault.TheVariants.{StartLineAfterEndLine, TextTooLong}
+pub use Rattle.command_effects.specs.declared.answers.Fault.TheVariants.{TooManyMarks, TooManyTags, TooManyWidgets}
+pub use Rattle.command_effects.specs.declared.answers.Fault.TheVariants.{WindowExists}
 pub use Rattle.command_effects.specs.declared.settings.Settings.{Settings}
 pub use Rattle.command_table.specs.Numbers.{boolean_of, integer_of}
 pub use Rattle.command_table.specs.Reading.{bad_or, behind, reading, shape_in, subcommand}
@@ -67,9 +68,10 @@ pub use Rattle.documents.specs.Widgets.{ShowsOpenly, bare_document, is_kept, kee
 pub use Rattle.documents.specs.Widgets.{thinned, widget_named, with_peer, without_widgets}
 pub use Rattle.documents.specs.declared.mark_lists.MarkChange.{MarkChange}
 pub use Rattle.documents.specs.declared.mark_lists.MarkKey.{MarkKey}
-pub use Rattle.peers.specs.Arguments.{none_or_one_of, one_or_more_of, one_or_two_of, two_of, two_or_more_of}
+pub use Rattle.peers.specs.Arguments.{none_or_one_of, one_or_more_of, one_or_two_of, three_of, two_of, two_or_more_of}
 pub use Rattle.peers.specs.Commands.{Call, arguments_of, call_of, command, done, is_frugal_reading, is_told, shaped}
 pub use Rattle.peers.specs.Commands.{switches_of}
+pub use Rattle.peers.specs.Comparisons.{comparison_of, holds}
 pub use Rattle.peers.specs.Deletions.{delete, replace, replace_places, replace_words}
 pub use Rattle.peers.specs.History.{edit_modified, modified_word}
 pub use Rattle.peers.specs.Laws.{AnswersBefore, AreSpared, BeginsToKeep, GoesBack, NamesWindow, UndoRuns, after_all}
@@ -79,8 +81,8 @@ pub use Rattle.peers.specs.Marks.{gravity_asked, gravity_given, gravity_words, m
 pub use Rattle.peers.specs.Marks.{set_words}
 pub use Rattle.peers.specs.MarksTold.{MarksTellAt, MarksTellBy, MarksTellOf, TellsDropped}
 pub use Rattle.peers.specs.Options.{configure, settings_given}
-pub use Rattle.peers.specs.Queries.{counted_as, direction_by, direction_of, has_switch, is_direction, stands_for}
-pub use Rattle.peers.specs.Queries.{turned}
+pub use Rattle.peers.specs.Queries.{count_between, count_words, counted_as, direction_by, direction_of, has_switch}
+pub use Rattle.peers.specs.Queries.{is_direction, stands_for, turned}
 pub use Rattle.peers.specs.Ranges.{and_place, places_at}
 pub use Rattle.peers.specs.Requests.{called, request_step, widget_of, words_of}
 pub use Rattle.peers.specs.Step.{Makes, Outcome, are_frugal, changed, create, create_named, create_new, create_shaped}

@@ -1,12 +1,8 @@
 -- What `compare` gives, by what its indices give.
 use Rattle.peers.proofs.Common.{◌≡◌, ℕ, ◌+◌, List, ap, ◌∙◌, Ok, Err, Fault, Document, Widget, with_value, place_at}
-use Rattle.command_effects.specs.declared.answers.Answer.TheVariants.{Flag}
-use Rattle.command_effects.specs.declared.answers.Fault.TheVariants.{BadComparison}
-use Rattle.peers.specs.Arguments.{three_of}
-use Rattle.peers.specs.Comparisons.{comparison_of, holds}
+use Rattle.peers.proofs.Common.{Flag, BadComparison, three_of, comparison_of, holds, ok_or}
 use Rattle.peers.specs.Indices.{compare, compared, compared_at}
 use Rattle.peers.specs.declared.comparisons.Comparison.{Comparison}
-use Rattle.std.specs.Prelude.{ok_or}
 
 module _ (document : Document) (widget : Widget) (position : ℕ) (words : List (List ℕ)) (left operator right : List ℕ)
     (from : ℕ) (comparison : Comparison) (three : three_of words ≡ Ok (left, operator, right))

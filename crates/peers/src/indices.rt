@@ -12,6 +12,7 @@ use documents::Document;
 use text_model::TextStore;
 
 /// `W index I` (text(n), "index").
+#[inline(always)]
 pub fn index<S: TextStore>(
     document: &mut Document<S>,
     request: &Request<'_>,

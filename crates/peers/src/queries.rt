@@ -3,8 +3,8 @@
 ghost use Rattle.std.specs.Prelude.{◌≡◌, ◌≤◌, length, map, chars, option_map, IfOk, IfSome, ◌<◌};
 ghost use Rattle.tcl_words.specs.Unread.{texts_of};
 ghost use Rattle.documents.specs.Promise.{Gives};
-ghost use Rattle.peers.specs.Queries.{count, counted_as, direction_of, dump, has_switch, listed_by, place_behind};
-ghost use Rattle.peers.specs.Queries.{search, search_switches, stop_at, turned};
+ghost use Rattle.peers.specs.Queries.{count, count_words, counted_as, direction_of, dump, has_switch, listed_by};
+ghost use Rattle.peers.specs.Queries.{place_behind, search, search_switches, stop_at, turned};
 ghost use Rattle.peers.specs.Requests.{widget_of, words_of};
 ghost use Rattle.documents.specs.Views.{shown};
 ghost use Rattle.documents.specs.Documents.{widget_at};
@@ -15,7 +15,6 @@ use command_effects::{Answer, Fault, is_word};
 use command_table::abbreviates;
 use documents::Document;
 use search_dump::{Counted, Listed, SearchSwitches, Wanted};
-use smallvec::SmallVec;
 use std::alloc::{AllocError, Global};
 use text_index::Direction;
 use text_model::TextStore;
@@ -91,11 +90,11 @@ fn counted_as(word: &str) -> Counted
     }
 }
 
-/// Returns what options count. One is kept without an allocation.
-fn counted_options(alloc: Global, words: &[String]) -> Result<SmallVec<Counted, 1>, AllocError>
+/// Returns what options count.
+fn counted_options(alloc: Global, words: &[String]) -> Result<Vec<Counted>, AllocError>
     ensures { IfOk result (λ options. options.items ≡ map counted_as (texts_of words.now)) }
 {
-    let mut options = SmallVec::with_capacity(alloc, words.len())?;
+    let mut options = Vec::with_capacity(alloc, words.len())?;
     for word in words {
         options.push(counted_as(word.as_str()))?;
     }
@@ -149,7 +148,27 @@ pub fn search<S: TextStore>(document: &Document<S>, request: &Request<'_>) -> Re
     Ok(Answer::Text(list))
 }
 
-/// `W count ?option ..? A B` (text(n), "count").
+/// `W count ?option ..? A B`, by what its options count and its two indices.
+fn count_as<S: TextStore>(
+    document: &mut Document<S>,
+    request: &Request<'_>,
+    options: &[Counted],
+    first: &str,
+    second: &str,
+) -> Result<Answer, Fault>
+    requires shown { request.now.caller.seat < length document.old.widgets }
+    ensures same { document.new ≡ document.old }
+    ensures value { Gives result (count_words document.old (widget_of document.old request.now) options.now
+        request.now.position (chars first.now, chars second.now)) }
+{
+    let seat = request.caller.seat;
+    let from = document.seek(seat, request.position, first)?;
+    let to = document.seek(seat, request.position + 1, second)?;
+    Ok(Answer::Text(document.counts_of(seat, options, from, to)?))
+}
+
+/// `W count ?option ..? A B` (text(n), "count"). One option is kept without an allocation.
+#[inline(always)]
 pub fn count<S: TextStore>(
     document: &mut Document<S>,
     request: &Request<'_>,
@@ -161,11 +180,20 @@ pub fn count<S: TextStore>(
         request.now.position (words_of request.now)) }
 {
     let (first, second) = request.two()?;
-    let options = counted_options(document.allocator(), request.switches)?;
-    let seat = request.caller.seat;
-    let from = document.seek(seat, request.position, first)?;
-    let to = document.seek(seat, request.position + 1, second)?;
-    Ok(Answer::Text(document.counts_of(seat, &options, from, to)?))
+    match request.switches {
+        [] => count_as(document, request, &[], first, second),
+        [option] => count_as(
+            document,
+            request,
+            &[counted_as(option.as_str())],
+            first,
+            second,
+        ),
+        options => {
+            let options = counted_options(document.allocator(), options)?;
+            count_as(document, request, &options, first, second)
+        }
+    }
 }
 
 /// The place after that of a character, or the end.

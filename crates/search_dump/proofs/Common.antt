@@ -62,8 +62,8 @@ pub use Rattle.std.proofs.lemmas.Result.{IfOk-weaker, on_ok_weaker}
 pub use Rattle.std.proofs.lemmas.Slice.Eq.{bytes_eq-Decides}
 pub use Rattle.std.proofs.lemmas.Str.{IsCharBoundary-from_rest, IsCharBoundary-start, IsUtf8-drop, IsUtf8-string_bytes}
 pub use Rattle.std.proofs.lemmas.Str.{IsUtf8-take, chars-IsAscii, chars-append, chars-nil, chars_from_encodes}
-pub use Rattle.std.proofs.lemmas.Str.{chars_past_char, encodes-append, encodes-chars, len_utf8_bounds, length-encode}
-pub use Rattle.std.proofs.lemmas.Str.{length-le-encodes}
+pub use Rattle.std.proofs.lemmas.Str.{chars_past_char, encodes-IsAscii, encodes-append, encodes-chars, len_utf8_bounds}
+pub use Rattle.std.proofs.lemmas.Str.{length-encode, length-le-encodes}
 pub use Rattle.std.specs.List.{filter, find, flat_map, list_any, prefix_len, range_with_len}
 pub use Rattle.std.specs.Option.{SomeIff, is_some, option_and_then, option_map, option_or}
 pub use Rattle.std.specs.Prelude.{if◌then◌else◌, IfOk, IfSome, IsTrue, MatchOption, OnOk, bytes_eq, codes, nat_le}
@@ -72,7 +72,7 @@ pub use Rattle.std.specs.Str.{IsAscii, IsCharBoundary, IsUtf8}
 pub use Rattle.std.specs.Str.Pattern.{HasTextAt, LacksTextAt}
 pub use Rattle.tag_table.specs.Tags.{Tag, slots_of}
 pub use Rattle.tcl_words.proofs.ListGrowth.{goes_all, goes_mapped, goes_nowhere, goes_on}
-pub use Rattle.tcl_words.proofs.PlainElements.{goes-place, goes-plain}
+pub use Rattle.tcl_words.proofs.PlainElements.{goes-place, goes-plain, plain-decimal, plain-negative}
 pub use Rattle.tcl_words.specs.ListGrowth.{Goes}
 pub use Rattle.tcl_words.specs.ListText.{list_text, needs_quotes}
 pub use Rattle.text_index.proofs.FlagLaws.{length-shown_flags, next-alike, next-other, part-flag}

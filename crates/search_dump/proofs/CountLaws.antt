@@ -1,7 +1,6 @@
 -- What `count` answers needs no quotes in a list.
-use Rattle.search_dump.proofs.Common.{◌≡◌, ℕ, ◌<◌, ◌-◌, ◌^◌, ◌∷◌, true, false, nat_lt, decimal, arith}
-use Rattle.search_dump.proofs.Common.{needs_quotes, difference, if◌then◌else◌}
-use Rattle.tcl_words.proofs.PlainElements.{plain-decimal, plain-negative}
+use Rattle.search_dump.proofs.Common.{◌≡◌, ℕ, ◌<◌, ◌-◌, ◌^◌, ◌∷◌, true, false, nat_lt, decimal, arith, needs_quotes}
+use Rattle.search_dump.proofs.Common.{difference, if◌then◌else◌, plain-decimal, plain-negative}
 
 pub plain-difference : (from to : ℕ) → from < 10 ^ 64 → to < 10 ^ 64 → needs_quotes (difference from to) ≡ false
 plain-difference from to first second =

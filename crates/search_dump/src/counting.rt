@@ -23,6 +23,7 @@ pub enum Counted {
 }
 
 /// How many characters or newlines stand before a place of the view.
+#[inline(always)]
 fn number_at<S: TextStore>(view: &View<'_, S>, counted: Counted, place: usize) -> usize
     requires within { view.now.start + place ≤ view.now.end }
     ensures { result ≡ number_at counted (shown (part_of view.now)) place }
@@ -56,6 +57,7 @@ fn push_signed(list: &mut String, from: usize, to: usize) -> Result<(), AllocErr
 }
 
 /// Appends by how much a number is above another one as an element of a list, which it is as it stands.
+#[inline(always)]
 fn push_difference(list: &mut String, from: usize, to: usize) -> Result<(), AllocError>
     ensures { OnOk result (Goes (string_bytes list.old) (string_bytes list.new) (difference from to ∷ [])) }
 {
@@ -65,6 +67,7 @@ fn push_difference(list: &mut String, from: usize, to: usize) -> Result<(), Allo
 }
 
 /// Appends how much further one place is than another, as one option counts.
+#[inline(always)]
 fn push_count<S: TextStore>(
     list: &mut String,
     view: &View<'_, S>,
@@ -119,6 +122,25 @@ fn list_counts<S: TextStore>(
     Ok(list)
 }
 
+/// How much further one place is than another, as one option counts.
+#[inline(always)]
+fn count_once<S: TextStore>(
+    alloc: Global,
+    view: &View<'_, S>,
+    option: Counted,
+    from: usize,
+    to: usize,
+) -> Result<String, AllocError>
+    requires from { view.now.start + from ≤ view.now.end }
+    requires to { view.now.start + to ≤ view.now.end }
+    ensures { IfOk result (λ answer. string_bytes answer ≡ encode_utf8_all (list_text
+        (distance (shown (part_of view.now)) from to option ∷ []))) }
+{
+    let mut answer = String::new(alloc);
+    push_count(&mut answer, view, option, from, to)?;
+    Ok(answer)
+}
+
 /// How much further one place of the view is than another (text(n), "count"): a number for each of the options, and
 /// that of the characters where there is none. The number is below 0 where the second place stands before the first. As
 /// the text of a list.
@@ -135,8 +157,9 @@ pub fn count<S: TextStore>(
         ≡ encode_utf8_all (list_text
         (counted options.now (shown (part_of view.now)) from to))) }
 {
-    if options.is_empty() {
-        return list_counts(alloc, view, &[Counted::Characters], from, to);
+    match options {
+        [] => count_once(alloc, view, Counted::Characters, from, to),
+        [option] => count_once(alloc, view, *option, from, to),
+        _ => list_counts(alloc, view, options, from, to),
     }
-    list_counts(alloc, view, options, from, to)
 }

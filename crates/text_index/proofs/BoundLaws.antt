@@ -10,18 +10,13 @@ use Rattle.text_index.proofs.Common.{on_line, line_value, unless_end, lines_back
 use Rattle.text_index.proofs.Common.{modified, modified_by, or_fault, first_tagged, last_tagged, base_value}
 use Rattle.text_index.proofs.Common.{then_modified, index_value, Meanings, AreWithin, value_of, shown_meanings}
 use Rattle.text_index.proofs.Common.{IndexFault, BadIndex, Base, Some, None, Cell, is_word, length-map, shown_flags}
-use Rattle.text_index.proofs.Common.{word_value, index_of}
-use Rattle.index_grammar.specs.Names.{known_marks, known_tags}
+use Rattle.text_index.proofs.Common.{word_value, index_of, known_marks, known_tags, Mark, first_number, Tag}
+use Rattle.text_index.proofs.Common.{saturated_index, Modifier, most}
 use Rattle.text_index.proofs.FlagLaws.{length-shown_flags}
 use Rattle.std.proofs.lemmas.List.Quantifiers.{position-Some}
 use Rattle.text_model.specs.declared.places.Place.{Place}
-use Rattle.mark_table.specs.SharedMarks.{Mark, first_number}
-use Rattle.tag_table.specs.Tags.{Tag}
 use Rattle.text_index.proofs.ViewLaws.{length-shown}
-use Rattle.index_grammar.specs.Steps.{saturated_index}
-use Rattle.index_grammar.specs.declared.indices.Modifier.{Modifier}
 use Rattle.index_grammar.specs.declared.indices.Unit.TheVariants.{Characters, Lines}
-use Rattle.index_grammar.proofs.PlaceLaws.{most}
 use Rattle.std.specs.FinMap as finite
 use Rattle.index_grammar.specs.declared.indices.Base.TheVariants as base
 use Rattle.index_grammar.specs.declared.indices.Modifier.TheVariants as modifier

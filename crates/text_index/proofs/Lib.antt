@@ -6,6 +6,7 @@ pub mod MoveLaws
 pub mod PositionLaws
 pub mod RangeLaws
 pub mod RangeRows
+pub mod ReadLaws
 pub mod RunLaws
 pub mod SameLine
 pub mod StartLaws

@@ -113,6 +113,11 @@ abbrev pub then_modified : (ℕ → Bool) → List ℕ → List Modifier → Res
 then_modified is_word text modifiers (Err fault) = Err fault
 then_modified is_word text modifiers (Ok place) = Ok (modified_by is_word text modifiers place)
 
+-- the modifiers that were read, or none where what was read is no list of them
+abbrev pub read_modified : (ℕ → Bool) → List ℕ → Option (List Modifier) → Result ℕ IndexFault → Result ℕ IndexFault
+read_modified is_word text None from = Err BadIndex
+read_modified is_word text (Some modifiers) from = then_modified is_word text modifiers from
+
 abbrev pub index_value : (ℕ → Bool) → (ℕ → Option ℕ) → (ℕ → List Bool) → List ℕ → Base → List Modifier →
     Result ℕ IndexFault
 index_value is_word marks flags text base modifiers =

@@ -8,18 +8,17 @@ ghost use Rattle.text_index.specs.Words.{is_word};
 ghost use Rattle.text_index.specs.Meanings.{shown_meanings, word_value};
 ghost use Rattle.index_grammar.specs.declared.faults.IndexFault.TheVariants.{Memory};
 
-use crate::values::resolve;
+use crate::values::place_of;
 use crate::views::View;
-use index_grammar::{Base, IndexFault, Names, parse};
-use std::alloc::Global;
+use index_grammar::{Base, IndexFault, Names, find_base};
 use text_model::TextStore;
 
 /// The place in a view that a word stands for, counted from the start of the view (text(n), "INDICES").
 ///
 /// "bad text index" where the word is no index, or names a mark that the view can't use; "no tagged characters" where
-/// no character of the view has the tag that it names.
+/// no character of the view has the tag that it names. It allocates nothing.
+#[inline(always)]
 pub fn locate<S: TextStore>(
-    alloc: Global,
     word: &str,
     names: &Names,
     view: &View<'_, S>,
@@ -32,14 +31,16 @@ pub fn locate<S: TextStore>(
         (shown (part_of view.now)) (chars word.now) }
     ensures within { IfOk result (λ place. view.now.start + place ≤ view.now.end) }
 {
-    let index = parse(alloc, word, names)?;
-    resolve(&index, view)
+    let Some((base, rest)) = find_base(word, names) else {
+        return Err(IndexFault::BadIndex);
+    };
+    place_of(view, base, rest.as_bytes())
 }
 
 /// Returns what `locate` does in the view from one offset to another. If the view begins with the text, the store looks
 /// up the line that the index names, so that the calls after this one find it without a search.
+#[inline(always)]
 pub fn seek<S: TextStore>(
-    alloc: Global,
     word: &str,
     names: &Names,
     store: &mut S,
@@ -56,14 +57,17 @@ pub fn seek<S: TextStore>(
         (shown (record { content = S.content store.old; start = start; end = end })) (chars word.now) }
     ensures within { IfOk result (λ place. start + place ≤ end) }
 {
-    let index = parse(alloc, word, names)?;
+    let Some((base, rest)) = find_base(word, names) else {
+        return Err(IndexFault::BadIndex);
+    };
     if start == 0 {
-        seek_base(store, index.base);
+        seek_base(store, base);
     }
-    resolve(&index, &View::new(store, start, end))
+    place_of(&View::new(store, start, end), base, rest.as_bytes())
 }
 
 /// Has the store look up the line that the base of an index names.
+#[inline(always)]
 fn seek_base<S: TextStore>(store: &mut S, base: Base)
     ensures { S.content store.new ≡ S.content store.old }
 {

@@ -1,16 +1,19 @@
 //! The place of a view that an index stands for: the place of its base, moved by each modifier in turn.
 
-ghost use Rattle.std.specs.Prelude.{◌≡◌, suc, ◌≤◌, ◌<◌, ◌+◌, None, Some, IfOk, IfSome};
+ghost use Rattle.std.specs.Prelude.{◌≡◌, suc, ◌≤◌, ◌<◌, ◌+◌, [], ◌∷◌, None, Some, IfOk, IfSome};
 ghost use Rattle.text_index.specs.Parts.{part_of};
 ghost use Rattle.text_index.specs.Views.{shown, shown_flags, shown_mark};
 ghost use Rattle.text_index.specs.Values.{line_value, base_value, modified, modified_by, index_value};
+ghost use Rattle.text_index.specs.Values.{read_modified, then_modified};
+ghost use Rattle.index_grammar.specs.Grammar.{modifiers_of, tokens_of};
 ghost use Rattle.index_grammar.specs.Reading.{HasSlot};
+ghost use Rattle.index_grammar.specs.Steps.{saturated};
 ghost use Rattle.text_index.specs.Words.{is_word};
 
 use crate::moves::{back, forward, line_end, line_start, lines_by, word_end, word_start};
 use crate::ranges::{first_tagged, last_tagged};
 use crate::views::View;
-use index_grammar::{Base, Direction, Index, IndexFault, Modifier, Unit};
+use index_grammar::{Base, Direction, Index, IndexFault, Modifier, Unit, next_modifier};
 use text_model::{Limits, MarkNo, TextStore};
 
 /// Where the view shows a mark: the widgets' own within its characters, and the shared ones only where they stand in
@@ -36,6 +39,7 @@ fn shown_mark<S: TextStore>(view: &View<'_, S>, number: MarkNo) -> Option<usize>
 }
 
 /// A character of a line, or its newline where the line is shorter; the end for a line behind the last.
+#[inline(always)]
 fn character_on<S: TextStore>(view: &View<'_, S>, line: usize, character: usize) -> usize
     ensures value { result
         ≡ line_value (suc line) (Some character) (shown (part_of view.now)) }
@@ -60,6 +64,7 @@ fn newline_on<S: TextStore>(view: &View<'_, S>, line: usize) -> usize
 
 /// The place of a line that counts from 1: the first place for line 0, and the end for a line behind the last. The
 /// newline of the line, where no character is named or the line is shorter.
+#[inline(always)]
 fn on_line<S: TextStore>(view: &View<'_, S>, line: usize, character: Option<usize>) -> usize
     ensures value { result ≡ line_value line character (shown (part_of view.now)) }
     ensures bound { view.now.start + result ≤ view.now.end }
@@ -76,6 +81,7 @@ fn on_line<S: TextStore>(view: &View<'_, S>, line: usize, character: Option<usiz
 }
 
 /// Where an index begins.
+#[inline(always)]
 fn base_value<S: TextStore>(view: &View<'_, S>, base: Base) -> Result<usize, IndexFault>
     requires slot { HasSlot base }
     ensures value { result ≡ base_value (shown_mark (part_of view.now))
@@ -114,6 +120,67 @@ fn modified<S: TextStore>(view: &View<'_, S>, place: usize, modifier: Modifier) 
         Modifier::WordStart => word_start(view, place),
         Modifier::WordEnd => word_end(view, place),
     }
+}
+
+/// Where a modifier leads from the place that was found, if one was.
+fn moved<S: TextStore>(
+    view: &View<'_, S>,
+    from: Result<usize, IndexFault>,
+    modifier: Modifier,
+) -> Result<usize, IndexFault>
+    requires within { IfOk from (λ place. view.now.start + place ≤ view.now.end) }
+    ensures value { result ≡ then_modified is_word (shown (part_of view.now)) (modifier ∷ []) from }
+    ensures within { IfOk result (λ place. view.now.start + place ≤ view.now.end) }
+{
+    match from {
+        Ok(place) => Ok(modified(view, place, modifier)),
+        Err(fault) => Err(fault),
+    }
+}
+
+/// Where the modifiers that a text is made of lead from the place that was found, the first first. "bad text index"
+/// where the text is made of anything else.
+fn read_modified<S: TextStore>(
+    view: &View<'_, S>,
+    from: Result<usize, IndexFault>,
+    text: &[u8],
+) -> Result<usize, IndexFault>
+    requires within { IfOk from (λ place. view.now.start + place ≤ view.now.end) }
+    ensures value { result ≡ read_modified is_word (shown (part_of view.now))
+        (saturated (modifiers_of (tokens_of text.now))) from }
+    ensures within { IfOk result (λ place. view.now.start + place ≤ view.now.end) }
+{
+    let mut found = from;
+    let mut rest = text;
+    while let Some((modifier, behind)) = next_modifier(rest)? {
+        found = moved(view, found, modifier);
+        rest = behind;
+    }
+    found
+}
+
+/// Returns the place of an index, counted from the start of the view, by its base and the text of its modifiers.
+///
+/// "bad text index" where a modifier is none, or the index names a mark that the view can't use, and "no tagged
+/// characters" where no character of the view has the tag that it names. It allocates nothing.
+#[inline(always)]
+pub(crate) fn place_of<S: TextStore>(
+    view: &View<'_, S>,
+    base: Base,
+    rest: &[u8],
+) -> Result<usize, IndexFault>
+    requires slot { HasSlot base }
+    ensures value { result ≡ read_modified is_word (shown (part_of view.now))
+        (saturated (modifiers_of (tokens_of rest.now)))
+        (base_value (shown_mark (part_of view.now)) (λ slot. shown_flags slot (part_of view.now))
+        (shown (part_of view.now)) base) }
+    ensures within { IfOk result (λ place. view.now.start + place ≤ view.now.end) }
+{
+    let place = base_value(view, base);
+    if rest.is_empty() {
+        return place;
+    }
+    read_modified(view, place, rest)
 }
 
 /// The place that an index stands for, counted from the start of the view.

@@ -48,6 +48,7 @@ impl<'a, S: TextStore> View<'a, S> {
 
     /// Returns the view from one offset to another, both of which are the start of a line or the end of the text. The
     /// store isn't asked for a line.
+    #[inline(always)]
     pub fn new(store: &'a S, start: usize, end: usize) -> View<'a, S>
         requires { IsView (record { content = S.content store.now; start = start; end = end }) }
         ensures { part_of result ≡ record { content = S.content store.now; start = start; end = end } }
@@ -99,6 +100,7 @@ impl<'a, S: TextStore> View<'a, S> {
     }
 
     /// The number of its first line in the text.
+    #[inline(always)]
     fn first_line(&self) -> usize
         ensures { result ≡ line_of (characters (S.content self.now.store.now).cells) self.now.start }
     {
@@ -188,6 +190,7 @@ impl<'a, S: TextStore> View<'a, S> {
 
     /// Where a line begins, and where the line behind it does, if the view has that line. The store is asked once, and
     /// for the first line where that isn't known.
+    #[inline(always)]
     pub fn line_bounds(&self, line: usize) -> Option<(usize, usize)>
         ensures none { result ≡ None → lines (shown (part_of self.now)) ≤ line }
         ensures some { IfSome result (λ _. line < lines (shown (part_of self.now))) }

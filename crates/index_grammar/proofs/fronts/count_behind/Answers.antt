@@ -1,4 +1,4 @@
-use Rattle.index_grammar.proofs.Common.{true, ◌++◌, sym, ap, ◌∙◌, false≢true, closes}
+use Rattle.index_grammar.proofs.Common.{◌++◌, sym, ap, ◌∙◌, false≢true, closes}
 use Rattle.index_grammar.proofs.BoundLaws.{cancel}
 use Rattle.index_grammar.proofs.fronts.count_behind.Goals as goal
 

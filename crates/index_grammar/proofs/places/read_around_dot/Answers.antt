@@ -1,5 +1,5 @@
-use Rattle.index_grammar.proofs.Common.{◌≡◌, ◌∷◌, [], Some, None, ap, sym, ◌∙◌, min, closed_of, saturated_base}
-use Rattle.index_grammar.proofs.Common.{option_map, Decides-eqb, strip_prefix_is, with_rest}
+use Rattle.index_grammar.proofs.Common.{◌≡◌, Some, None, ap, sym, ◌∙◌, min, closed_of, saturated_base, option_map}
+use Rattle.index_grammar.proofs.Common.{with_rest}
 use Rattle.index_grammar.proofs.ClosedLaws.{after_dot, dot-none, dot-some}
 use Rattle.index_grammar.proofs.PlaceLaws.{most}
 use Rattle.index_grammar.proofs.places.read_around_dot.Goals as goal
@@ -11,19 +11,16 @@ returns-in_err-line-clause-value c = λ front rest is.
     (λ line behind number _. let h : None ≡ option_map (min most) (Some line) = (c.in_err-line.ensures {u = tt}).number
     ∙ ap (option_map (min most)) number in cc)))
 
-pub returns-in_err-strip_prefix-clause-value : goal.returns-in_err-strip_prefix-clause-value
-returns-in_err-strip_prefix-clause-value c = λ front rest is.
-    ap closed_of c.from_residual-in_err-strip_prefix.ensures
+pub returns-in_err-strip_dot-clause-value : goal.returns-in_err-strip_dot-clause-value
+returns-in_err-strip_dot-clause-value c = λ front rest is.
+    ap closed_of c.from_residual-in_err-strip_dot.ensures
     ∙ sym (ap (λ o. with_rest rest (option_map saturated_base o)) (dot-none c.args.text.now front rest is
-    (λ line behind _ dot. strip_prefix_is Decides-eqb c.in_ok-line.rest.now (46 ∷ []) None
-    (c.in_err-strip_prefix.ensures {u = tt}).cases
-    behind ((c.in_ok-line.ensures {u = tt}).rest ∙ dot))))
+    (λ line behind _ dot. c.in_err-strip_dot.ensures {u = tt} behind ((c.in_ok-line.ensures {u = tt}).rest ∙ dot))))
 
 pub returns-clause-value : goal.returns-clause-value
 returns-clause-value c = λ front rest is.
-    let behind = c.in_ok-strip_prefix.field-0 in
+    let behind = c.in_ok-strip_dot.field-0 in
     let known = dot-some c.args.text.now front rest behind.now c.in_ok-line.line is
     (c.in_ok-line.ensures {u = tt}).number
-    (sym (c.in_ok-line.ensures {u = tt}).rest ∙ strip_prefix_is Decides-eqb c.in_ok-line.rest.now (46 ∷ []) (Some behind)
-    (c.in_ok-strip_prefix.ensures {u = tt}).cases) in
+    (sym (c.in_ok-line.ensures {u = tt}).rest ∙ c.in_ok-strip_dot.ensures {u = tt}) in
     c.read_in_line.ensures.value (after_dot c.args.text.now front) rest known.0 ∙ known.1

@@ -1,9 +1,5 @@
 use Rattle.peers.proofs.Common.{◌≡◌, ◌+◌, ap, sym, subst, ◌∙◌, chars, Ok, Err, Document, Gives, place_at, widget_at}
-use Rattle.peers.proofs.Common.{widget_of, words_of}
-use Rattle.command_effects.specs.declared.answers.Answer.TheVariants.{Flag}
-use Rattle.command_effects.specs.declared.answers.Fault.TheVariants.{BadComparison}
-use Rattle.peers.specs.Comparisons.{comparison_of}
-use Rattle.std.specs.Prelude.{ok_or}
+use Rattle.peers.proofs.Common.{widget_of, words_of, Flag, BadComparison, comparison_of, ok_or}
 use Rattle.peers.proofs.CompareLaws.{compare-fault, compare-found}
 use Rattle.peers.proofs.PromiseLaws.{fault-defined, faulted, value-defined}
 use Rattle.peers.proofs.indices.compare.Given.{Over}

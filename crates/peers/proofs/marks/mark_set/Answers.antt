@@ -1,5 +1,5 @@
-use Rattle.peers.proofs.Common.{ap, ◌∙◌, ◌+◌, subst, chars, Document, Does, widget_at, widget_of, place_at}
-use Rattle.peers.proofs.Common.{mark_offset, place_named, set_found}
+use Rattle.peers.proofs.Common.{ap, ◌∙◌, ◌+◌, subst, chars, Document, Does, widget_at, widget_of, place_at, mark_offset}
+use Rattle.peers.proofs.Common.{place_named, set_found}
 use Rattle.peers.proofs.PromiseLaws.{value-defined}
 use Rattle.peers.proofs.marks.mark_set.Goals as goal
 

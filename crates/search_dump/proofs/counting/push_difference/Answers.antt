@@ -1,5 +1,4 @@
-use Rattle.search_dump.proofs.Common.{◌++◌, ap, ◌∙◌, arith, string_bytes, difference, goes-plain}
-use Rattle.std.proofs.lemmas.Str.{encodes-IsAscii}
+use Rattle.search_dump.proofs.Common.{◌++◌, ap, ◌∙◌, arith, string_bytes, difference, goes-plain, encodes-IsAscii}
 use Rattle.search_dump.proofs.CountLaws.{plain-difference}
 use Rattle.search_dump.proofs.counting.push_difference.Goals as goal
 
