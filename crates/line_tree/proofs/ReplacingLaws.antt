@@ -35,7 +35,7 @@ within-both a b c first second =
     ap (λ s. set.union s a.presence) (sym second) ∙ union-associative c.presence b.presence a.presence
     ∙ ap (set.union c.presence) first ∙ second
 
-within-first : (a b : Count) → IsWithin a (plus a b)
+pub within-first : (a b : Count) → IsWithin a (plus a b)
 within-first a b =
     union-commutative (set.union a.presence b.presence) a.presence
     ∙ sym (union-associative a.presence a.presence b.presence)

@@ -1,11 +1,11 @@
 //! Links children to a node, updates its sum, and adds a child, with a split if the node is full.
 
 ghost use Rattle.std.specs.Prelude.{◌≡◌, ℕ, ◌+◌, ◌*◌, ◌≤◌, ◌<◌, length, slice_get, take, drop, option_to_list, []};
-ghost use Rattle.std.specs.Prelude.{◌∷◌};
+ghost use Rattle.std.specs.Prelude.{◌∷◌, false, true};
 ghost use Rattle.std.specs.List.{insert};
 ghost use Rattle.raw_nodes.specs.Names.{IsInner, IsName, records, rooms, spares};
 ghost use Rattle.raw_nodes.specs.Rows.{kids, row};
-ghost use Rattle.toggle_sums.specs.Counts.{plus};
+ghost use Rattle.toggle_sums.specs.Counts.{IsWithin, no_text, plus};
 ghost use Rattle.line_tree.specs.Finds.{HasRow};
 ghost use Rattle.line_tree.specs.Shape.{sum_at};
 ghost use Rattle.line_tree.specs.Growth.{NewRoot};
@@ -14,7 +14,7 @@ ghost use Rattle.line_tree.specs.Changes.{sum_all, sums};
 
 use raw_nodes::{NodePtr, NodeStore, Ticks};
 use text_model::WORDS;
-use toggle_sums::{Summary, Sums};
+use toggle_sums::{Exchange, Summary, Sums};
 
 /// Puts a child into a slot, or takes out the one that is there.
 pub fn link<C: Ticks>(store: &mut NodeStore<C>, node: NodePtr, slot: usize, child: Option<NodePtr>)
@@ -50,31 +50,58 @@ pub fn relink<C: Ticks>(
     }
 }
 
-/// The sum of a node's children.
-fn sum_below<C: Ticks>(store: &NodeStore<C>, node: NodePtr, ticks: &mut C) -> Sums<WORDS>
+/// Adds the sums of a node's children to an empty sum, in their order, until all slots that are toggled in `gone` are
+/// toggled in it. Returns whether they are; if not, the sum is that of all children.
+fn add_until_within<C: Ticks>(
+    store: &NodeStore<C>,
+    node: NodePtr,
+    gone: &Sums<WORDS>,
+    sum: &mut Sums<WORDS>,
+    ticks: &mut C,
+) -> bool
     requires row { HasRow (records store.now) node }
     requires fits { FitsSum (sums (records store.now) (row (kids (records store.now) node))) }
-    ensures { result ≡ sums (records store.now) (row (kids (records store.now) node)) }
+    requires empty { sum.old ≡ no_text }
+    ensures found { result ≡ true → IsWithin gone.now (sums (records store.now) (row (kids (records store.now) node))) }
+    ensures whole { result ≡ false → sum.new ≡ sums (records store.now) (row (kids (records store.now) node)) }
 {
-    let mut sum = Sums::zero();
     for slot in 0..12 {
         if let Some(child) = store.child(node, slot, ticks) {
-            store.add_sum_to(child, &mut sum, ticks);
+            store.add_sum_to(child, sum, ticks);
+            if gone.is_within(sum) {
+                return true;
+            }
         }
     }
-    sum
+    false
 }
 
-/// Makes a node's sum that of its children.
-pub fn resum<C: Ticks>(store: &mut NodeStore<C>, node: NodePtr, ticks: &mut C)
+/// Makes a node's sum that of its children, in which one line's counts came for another's. Where some slots are in what
+/// went and not in what came, the children are asked for these, as far as they have to be.
+pub fn exchange_sum<C: Ticks>(
+    store: &mut NodeStore<C>,
+    node: NodePtr,
+    exchange: &Exchange<'_>,
+    ticks: &mut C,
+)
     requires row { HasRow (records store.old) node }
-    requires fits { FitsSum (sums (records store.old) (row (kids (records store.old) node))) }
+    requires sum { plus (sums (records store.old) (row (kids (records store.old) node))) exchange.now.gone.now
+        ≡ plus (sum_at (records store.old) node) exchange.now.more.now }
+    requires came { IsWithin exchange.now.more.now (sums (records store.old) (row (kids (records store.old) node))) }
+    requires went { IsWithin exchange.now.gone.now (sum_at (records store.old) node) }
+    requires fits { FitsSum (plus (sum_at (records store.old) node) exchange.now.more.now) }
     ensures records { records store.new ≡ resummed (records store.old) node (row (kids (records store.old) node)) }
     ensures spares { spares store.new ≡ spares store.old }
     ensures rooms { rooms store.new ≡ rooms store.old }
 {
-    let sum = sum_below(store, node, ticks);
-    store.set_sum(node, &sum);
+    if !exchange.is_within {
+        let mut sum = Sums::zero();
+        if !add_until_within(store, node, exchange.gone, &mut sum, ticks) {
+            store.set_sum(node, &sum);
+            return;
+        }
+    }
+    store.exchange(node, exchange);
 }
 
 /// Makes a node's sum that of its children, below which stands so much more than before.
@@ -90,8 +117,8 @@ pub fn add<C: Ticks>(store: &mut NodeStore<C>, node: NodePtr, more: &Sums<WORDS>
     store.add_sum(node, more);
 }
 
-/// Makes a node's sum that of its children, below which stands so much less than before. Which slots are toggled is
-/// asked of the children, where some are in what went.
+/// Makes a node's sum that of its children, below which stands so much less than before. Where slots are toggled in
+/// what went, the children are asked for these, as far as they have to be.
 pub fn lessen<C: Ticks>(store: &mut NodeStore<C>, node: NodePtr, gone: &Sums<WORDS>, ticks: &mut C)
     requires row { HasRow (records store.old) node }
     requires sum { plus (sums (records store.old) (row (kids (records store.old) node))) gone.now
@@ -103,9 +130,14 @@ pub fn lessen<C: Ticks>(store: &mut NodeStore<C>, node: NodePtr, gone: &Sums<WOR
 {
     if gone.is_bare() {
         store.lose_counts(node, gone.lines(), gone.characters(), gone.marks());
-    } else {
-        resum(store, node, ticks);
+        return;
     }
+    let mut sum = Sums::zero();
+    if add_until_within(store, node, gone, &mut sum, ticks) {
+        sum = store.sum(node, ticks);
+        sum.lose(gone);
+    }
+    store.set_sum(node, &sum);
 }
 
 /// What is counted of the text below these nodes.

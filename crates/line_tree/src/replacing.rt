@@ -3,19 +3,17 @@
 ghost use Rattle.std.specs.Prelude.{◌≡◌, ℕ, IfSome, OnErr, OnOk};
 ghost use Rattle.std.specs.FinMap as finite;
 ghost use Rattle.raw_nodes.specs.Names.{records, rooms, spares};
-ghost use Rattle.raw_nodes.specs.Rows.{kids, row};
 ghost use Rattle.raw_nodes.specs.Records.{Records};
 ghost use Rattle.segments.specs.Columns.{LineContent, line_count};
-ghost use Rattle.toggle_sums.specs.Counts.{Count, IsWithin, no_text, plus};
-ghost use Rattle.line_tree.specs.Changes.{Distinct, FitsSum, resummed, sums};
-ghost use Rattle.line_tree.specs.Finds.{HasRow};
+ghost use Rattle.toggle_sums.specs.Counts.{Count, no_text, plus};
+ghost use Rattle.line_tree.specs.Changes.{Distinct, FitsSum};
 ghost use Rattle.line_tree.specs.Places.{IsLineAt};
-ghost use Rattle.line_tree.specs.Shape.{IsTree, line_of, lines_in, sum_at, tree_at};
+ghost use Rattle.line_tree.specs.Shape.{IsTree, line_of, lines_in, tree_at};
 ghost use Rattle.line_tree.specs.Taking.{ChangesNamed};
 ghost use Rattle.line_tree.specs.Replacing.{CanEditNamed, EditsNamed, EditsOver, IsStale, PutsOver};
 ghost use Rattle.line_tree.specs.Trees.{names, total};
 
-use crate::fill::resum;
+use crate::fill::exchange_sum;
 use raw_nodes::{NodePtr, NodeStore, Ticks};
 use segments::{Line, LineEdit};
 use std::alloc::AllocError;
@@ -65,31 +63,6 @@ fn edit_over<C: Ticks, E: LineEdit>(
     line.trim();
     line.sum_to(more);
     Ok(())
-}
-
-/// Makes a node's sum that of its children, in which one line's counts came for another's. Which slots are toggled is
-/// asked of the children, where some are in what went and not in what came.
-fn exchange_sum<C: Ticks>(
-    store: &mut NodeStore<C>,
-    node: NodePtr,
-    exchange: &Exchange<'_>,
-    ticks: &mut C,
-)
-    requires row { HasRow (records store.old) node }
-    requires sum { plus (sums (records store.old) (row (kids (records store.old) node))) exchange.now.gone.now
-        ≡ plus (sum_at (records store.old) node) exchange.now.more.now }
-    requires came { IsWithin exchange.now.more.now (sums (records store.old) (row (kids (records store.old) node))) }
-    requires went { IsWithin exchange.now.gone.now (sum_at (records store.old) node) }
-    requires fits { FitsSum (plus (sum_at (records store.old) node) exchange.now.more.now) }
-    ensures records { records store.new ≡ resummed (records store.old) node (row (kids (records store.old) node)) }
-    ensures spares { spares store.new ≡ spares store.old }
-    ensures rooms { rooms store.new ≡ rooms store.old }
-{
-    if exchange.is_within {
-        store.exchange(node, exchange);
-    } else {
-        resum(store, node, ticks);
-    }
 }
 
 /// Exchanges what went with a line for what came with it in the sums from that line up, so that nothing is looked for.
