@@ -21,9 +21,10 @@ use std::mem;
 use tcl_words::{ScriptFault, Splitter};
 use text_model::Limits;
 
-/// So many words of a command, of so many bytes each, keep their room for the next one.
+/// The number of words of a command that keep their memory for a later one.
 const FEW_WORDS: usize = 16;
 
+/// The capacity, in bytes, up to which a word keeps its memory.
 const FEW_BYTES: usize = 256;
 
 impl Session {
@@ -298,10 +299,17 @@ fn given_by(reply: &Result<Answer, Fault>) -> Given
     }
 }
 
-/// Makes words that were said spare ones, where they are so few, and of so few bytes, that no world holds more than it
-/// needs. What stands in their place is to be replaced.
+/// Makes the words of an earlier call spare ones, whose list and strings the next call uses again. No world holds more
+/// than it needs: words after the first few are dropped, and the memory of long ones is freed. What was spare is to be
+/// replaced.
 fn keep_room(words: &mut Vec<String>, spare: &mut Vec<String>) {
-    if words.len() <= FEW_WORDS && words.iter().all(|word| word.capacity() <= FEW_BYTES) {
-        mem::swap(words, spare);
+    words.truncate(FEW_WORDS);
+    words.shrink_to(FEW_WORDS);
+    for word in words.iter_mut() {
+        if word.capacity() > FEW_BYTES {
+            word.clear();
+            word.shrink_to_fit();
+        }
     }
+    mem::swap(words, spare);
 }
