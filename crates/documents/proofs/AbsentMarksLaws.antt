@@ -1,12 +1,11 @@
 -- No edit of the text makes a mark.
 use Rattle.documents.proofs.Common.{◌≡◌, ◌≢◌, ℕ, true, false, List, [], ◌∷◌, None, Some, map, find, length, refl, sym}
 use Rattle.documents.proofs.Common.{ap, ◌∙◌, none-some, option_map, if◌then◌else◌, LimitTable, Place, is_same, drawn}
-use Rattle.documents.proofs.Common.{moved, Document, SharedMark, Widget, characters, widget_drawn, widget_moved}
-use Rattle.documents.proofs.Common.{with_cells, with_insert, without_cells, mark_at, MarkChange, MarkKey, All-nil}
+use Rattle.documents.proofs.Common.{moved, Document, Widget, with_insert, mark_at, MarkChange, MarkKey, All-nil}
+use Rattle.documents.proofs.PlacedByLaws.{cells-out, cells-put}
 use Rattle.documents.proofs.CarriedLaws.{IsTextEdited}
 use Rattle.documents.proofs.EditedLaws.{IsSteady, steady-edited}
 use Rattle.documents.proofs.MarkReportLaws.{by-kind, own_of}
-use Rattle.documents.proofs.MarksToldLaws.{sought}
 use Rattle.documents.proofs.StillMarksLaws.{marks-alike}
 
 -- a key that has no mark in a document has none in another one
@@ -28,40 +27,12 @@ own-absent get change name (widget ∷ widgets) keeps none =
       | false ↦ λ no. own-absent get change name widgets keeps no
     ] none
 
-shared-absent : (goes : Place → Place) (name : List ℕ) (marks : List SharedMark) → sought name marks ≡ None →
-    sought name (map (λ (mark : SharedMark). record mark { place = goes mark.place }) marks) ≡ None
-shared-absent goes name [] none = refl
-shared-absent goes name (mark ∷ marks) none =
-    let changed = map (λ (mark : SharedMark). record mark { place = goes mark.place }) marks in
-    elim (is_same name mark.name) as (λ b. option_map (λ (m : SharedMark). m.place) (if b then Some mark
-    else find (λ (m : SharedMark). is_same name m.name) marks) ≡ None → option_map (λ (m : SharedMark). m.place)
-    (if b then Some (record mark { place = goes mark.place })
-    else find (λ (m : SharedMark). is_same name m.name) changed) ≡ None) [
-      | true ↦ λ no. absurd (none-some mark.place (sym no))
-      | false ↦ λ no. shared-absent goes name marks no
-    ] none
-
--- widgets that keep their names, and shared marks that go along
-absent-along : (document new : Document) (change : Widget → Widget) (goes : Place → Place) →
-    ((widget : Widget) → (change widget).name ≡ widget.name) → new.widgets ≡ map change document.widgets
-    → new.marks ≡ map (λ (mark : SharedMark). record mark { place = goes mark.place }) document.marks
-    → KeepsAbsent document new
-absent-along document new change goes keeps widgets marks =
-    by-kind (λ key. mark_at document key ≡ None → mark_at new key ≡ None)
-    (λ name none. ap (own_of (λ (w : Widget). w.insert) name) widgets
-    ∙ own-absent (λ (w : Widget). w.insert) change name document.widgets keeps none)
-    (λ name none. ap (own_of (λ (w : Widget). w.current) name) widgets
-    ∙ own-absent (λ (w : Widget). w.current) change name document.widgets keeps none)
-    (λ name none. ap (sought name) marks ∙ shared-absent goes name document.marks none)
-
 absent-steady : (document : Document) → IsSteady (KeepsAbsent document)
 absent-steady document = record {
   put = λ at cells old holds key none.
-      absent-along old (with_cells at cells old) (widget_moved at (length cells)) (moved at (length cells)) (λ widget. refl)
-      refl refl key (holds key none);
+      cells-put at cells old key ∙ ap (option_map (moved at (length cells))) (holds key none);
   out = λ from to old holds key none.
-      absent-along old (without_cells from to old) (widget_drawn (characters old.cells) from to) (drawn from to)
-      (λ widget. refl) refl refl key (holds key none);
+      cells-out from to old key ∙ ap (option_map (drawn from to)) (holds key none);
   placed = λ widget place old holds key none.
       put-absent old widget place key (holds key none);
   alike = λ old new widgets marks holds key none.

@@ -1,11 +1,16 @@
 -- What holds of a document before a command, and after each edit that a command may make, holds after the command.
-use Rattle.documents.proofs.Common.{◌≡◌, ℕ, ◌+◌, ◌≤◌, Bool, true, false, List, Option, Some, None, Ok, Err, length}
-use Rattle.documents.proofs.Common.{refl, nat_lt, if◌then◌else◌, All, ltb-false, Gravity, Place, LimitTable, Empty}
-use Rattle.documents.proofs.Common.{Fault, NoSuchTag, TooManyTags, TextTooLong, Pair, is_among, delete_places}
-use Rattle.documents.proofs.Common.{replace_span, Document, Widget, edit_separator, modified_set, edit_redo, edit_undo}
-use Rattle.documents.proofs.Common.{mark_unset, place_named, set_found, with_mark, Change, answered, refused}
-use Rattle.documents.proofs.Common.{change_with, unless_idle, add_spans, known_or, remove_spans, reordered, tag_delete}
-use Rattle.documents.proofs.Common.{insert_at, insertion_offset, within_limits, is_idle, shown, view_end, Result}
+use Rattle.documents.proofs.Common.{Modified, separated, AllByRecursion, ◌++◌, ◌∙◌, ◌∷◌, ap, arith, map, nat_le}
+use Rattle.documents.proofs.Common.{with_name, spans_of, is_same, literal, TooManyMarks, SharedMark, with_current}
+use Rattle.documents.proofs.Common.{with_insert, with_shared, key_of, spans_shown, view_start, Span, KeyedCell}
+use Rattle.documents.proofs.Common.{characters, with_key, with_tag, without_tags, Key, changed-same, map-changed}
+use Rattle.documents.proofs.Common.{changed, Right, set_to, edit_group, ◌≡◌, ℕ, ◌+◌, ◌≤◌, Bool, true, false, List}
+use Rattle.documents.proofs.Common.{Option, Some, None, Ok, Err, length, refl, nat_lt, if◌then◌else◌, All, ltb-false}
+use Rattle.documents.proofs.Common.{Gravity, Place, LimitTable, Empty, Fault, NoSuchTag, TooManyTags, TextTooLong, Pair}
+use Rattle.documents.proofs.Common.{is_among, delete_places, replace_span, Document, Widget, edit_separator}
+use Rattle.documents.proofs.Common.{modified_set, mark_unset, place_named, set_found, with_mark, Change, answered}
+use Rattle.documents.proofs.Common.{refused, change_with, unless_idle, add_spans, known_or, remove_spans, reordered}
+use Rattle.documents.proofs.Common.{tag_delete, insert_at, insertion_offset, within_limits, is_idle, shown, view_end}
+use Rattle.documents.proofs.Common.{[], Result}
 
 -- ---- what may follow, or not
 
@@ -24,20 +29,26 @@ carried-active P document widget change same next =
       | false ↦ λ busy. next busy
     ] refl
 
+pub within-either : (P : Change → Type 0) (limits : LimitTable) (document : Document) (tags chars : ℕ) (change : Change)
+    → ((fault : Fault) → P (refused document fault)) → (chars ≤ limits.chars → P change)
+    → P (within_limits limits document tags chars change)
+within-either P limits document tags chars change left next =
+    elim (nat_lt (limits.tags + 1) tags) as
+    (λ b. P (if b then refused document TooManyTags else if nat_lt limits.chars chars then refused document TextTooLong
+    else change)) [
+      | true ↦ left TooManyTags
+      | false ↦ elim (nat_lt limits.chars chars) as (λ b. nat_lt limits.chars chars ≡ b →
+          P (if b then refused document TextTooLong else change)) [
+            | true ↦ λ _. left TextTooLong
+            | false ↦ λ few. next (ltb-false limits.chars chars few)
+          ] refl
+    ]
+
 pub carried-limited : (P : Document → Type 0) (limits : LimitTable) (document : Document) (tags chars : ℕ)
     (change : Change) → P document
     → (chars ≤ limits.chars → P change.document) → P (within_limits limits document tags chars change).document
 carried-limited P limits document tags chars change same next =
-    elim (nat_lt (limits.tags + 1) tags) as
-    (λ b. P (if b then refused document TooManyTags else if nat_lt limits.chars chars then refused document TextTooLong
-    else change).document) [
-      | true ↦ same
-      | false ↦ elim (nat_lt limits.chars chars) as (λ b. nat_lt limits.chars chars ≡ b →
-          P (if b then refused document TextTooLong else change).document) [
-            | true ↦ λ _. same
-            | false ↦ λ few. next (ltb-false limits.chars chars few)
-          ] refl
-    ]
+    within-either (λ (change : Change). P change.document) limits document tags chars change (λ _. same) next
 
 known-carried : (P : Document → Type 0) (document : Document) (position : ℕ) (name : List ℕ) (change : Change) → P document →
     P change.document
@@ -102,8 +113,7 @@ pub record IsTextEdited (limits : LimitTable) (document : Document) (widget : Wi
       → (view_end document widget ≤ length document.cells →
       All (λ place. place ≤ length (shown document widget)) places)
       → P (delete_places document widget places).document
-  pub undone : P (edit_undo document widget).document
-  pub redone : P (edit_redo document widget).document
+  pub grouped : (back : Bool) → P (edit_group back document widget).document
 
 -- It holds of a document, and after each edit of a widget that a command may make.
 pub record IsCarried (limits : LimitTable) (document : Document) (widget : Widget) (P : Document →
@@ -112,3 +122,97 @@ pub record IsCarried (limits : LimitTable) (document : Document) (widget : Widge
   pub tagged : IsTagged limits document widget P
   pub marked : IsMarked limits document widget P
   pub edited : IsTextEdited limits document widget P
+
+-- ---- by what is made of a document, whatever the words of the edit
+
+-- its tags in another order, its count, and its history
+pub carried-quiet : (P : Document → Type 0) (limits : LimitTable) (document : Document) (widget : Widget) → P document
+    → ((tags : List (List ℕ)) → P (record document { tags = tags }))
+    → ((modified : Modified) → P (record document { modified = modified }))
+    → P (record document { history = separated document.history }) → IsQuiet limits document widget P
+carried-quiet P limits document widget same tags modified history = record {
+  same = same;
+  ordered = λ position order words. carried-reordered P document position order words same tags;
+  modified = λ flag. modified (set_to flag document.modified);
+  separated = elim document.undo as
+      (λ b. P (if b then record document { history = separated document.history } else document))
+      [ true ↦ history | false ↦ same ];
+}
+
+text-tagged : (key : Key) (on : Bool) (spans : List Span) (cells : List KeyedCell) →
+    AllByRecursion (λ (span : Span). span.from ≤ span.to) spans
+    → characters (with_tag key on spans cells) ≡ characters cells
+text-tagged key on [] cells ordered = refl
+text-tagged key on (span ∷ spans) cells ordered =
+    text-tagged key on spans (changed (with_key key on) span.from span.to cells) ordered.1
+    ∙ map-changed (λ (cell : KeyedCell). cell.character) (with_key key on) (λ c. c) (λ cell. refl) span.from span.to
+    cells
+    ∙ changed-same span.from span.to (characters cells) ordered.0
+
+text-without : (names : List (List ℕ)) (cells : List KeyedCell) →
+    characters (map (without_tags names) cells) ≡ characters cells
+text-without names [] = refl
+text-without names (cell ∷ cells) = ap (λ text. cell.character ∷ text) (text-without names cells)
+
+ordered-spans : (start len : ℕ) (places : List ℕ) →
+    AllByRecursion (λ (span : Span). span.from ≤ span.to) (spans_of start len places)
+ordered-spans start len [] = tt
+ordered-spans start len (from ∷ []) = (omega arith, tt)
+ordered-spans start len (from ∷ to ∷ places) = (omega arith, ordered-spans start len places)
+
+-- its tags, which change no characters
+pub carried-tagged : (P : Document → Type 0) (limits : LimitTable) (document : Document) (widget : Widget) → P document
+    → ((tags : List (List ℕ)) (cells : List KeyedCell) → characters cells ≡ characters document.cells
+    → P (record document { tags = tags; cells = cells })) → IsTagged limits document widget P
+carried-tagged P limits document widget same tagged = record {
+  added = λ name places.
+      let tags = with_name document.tags name in
+      let cells = with_tag (key_of widget name) true (spans_shown document widget places) document.cells in
+      elim (nat_lt (limits.tags + 1) (length tags)) as (λ b. P (if b then refused document TooManyTags
+      else answered (record document { tags = tags; cells = cells }) Empty).document)
+      [ true ↦ same | false ↦ tagged tags cells (kept name true places) ];
+  removed = λ name places.
+      let cells = with_tag (key_of widget name) false (spans_shown document widget places) document.cells in
+      elim (is_among name document.tags) as (λ b. P (if b then record document { cells = cells } else document))
+      [ true ↦ tagged document.tags cells (kept name false places) | false ↦ same ];
+  untagged = λ names. tagged _ (map (without_tags names) document.cells) (text-without names document.cells);
+}
+  where
+    kept : (name : List ℕ) (on : Bool) (places : List ℕ) →
+        characters (with_tag (key_of widget name) on (spans_shown document widget places) document.cells)
+        ≡ characters document.cells
+    kept name on places =
+        text-tagged (key_of widget name) on (spans_shown document widget places) document.cells
+        (ordered-spans (view_start widget) (length (shown document widget)) places)
+
+-- its marks
+pub carried-marked : (P : Document → Type 0) (limits : LimitTable) (document : Document) (widget : Widget) → P document
+    → ((place : Place) → P (with_insert document widget place))
+    → ((place : Place) → P (with_current document widget place))
+    → ((marks : List SharedMark) → P (record document { marks = marks })) → IsMarked limits document widget P
+carried-marked P limits document widget same insert current shared = record {
+  turned = λ name old gravity _. put name (record old { gravity = gravity });
+  set = set;
+  unset = λ names. shared _;
+}
+  where
+    put : (name : List ℕ) (place : Place) → P (with_mark document widget name place)
+    put name place =
+        elim (is_same name (literal "insert")) as (λ b. P (if b then with_insert document widget place
+        else (if is_same name (literal "current") then with_current document widget place
+        else with_shared document name place))) [
+          | true ↦ insert place
+          | false ↦ elim (is_same name (literal "current")) as (λ b.
+              P (if b then with_current document widget place else with_shared document name place))
+              [ true ↦ current place | false ↦ shared _ ]
+        ]
+
+    set : (name : List ℕ) (offset : ℕ) (found : Option Place)
+        → P (set_found limits document widget name offset found).document
+    set name offset (Some old) = put name (record old { offset = offset })
+    set name offset None =
+        let marks = document.marks
+        ++ record { name = name; place = record { offset = offset; gravity = Right } } ∷ [] in
+        elim (nat_le limits.marks (length document.marks)) as (λ b. P (if b then refused document TooManyMarks
+        else answered (record document { marks = marks }) Empty).document)
+        [ true ↦ same | false ↦ shared marks ]

@@ -33,9 +33,9 @@ pub use Rattle.documents.specs.Documents.{Document, Journal, Parts, SharedMark, 
 pub use Rattle.documents.specs.Documents.{mark_of, no_widget, placed, whole, widget_at, widget_of}
 pub use Rattle.documents.specs.Edits.{KeyedText, widget_drawn, widget_moved, with_action, with_bare, with_cells}
 pub use Rattle.documents.specs.Edits.{with_text, with_texts, without_cells, without_span, without_spans}
-pub use Rattle.documents.specs.History.{action_again, action_back, edit_redo, edit_reset, edit_separator, edit_undo}
-pub use Rattle.documents.specs.History.{group_again, group_back, modified_set, redo_found, redone, text_back}
-pub use Rattle.documents.specs.History.{undo_found, undone, with_end}
+pub use Rattle.documents.specs.History.{action_again, after_group, edit_group, edit_redo, edit_reset, edit_separator}
+pub use Rattle.documents.specs.History.{edit_undo, group_again, group_found, modified_set, next_group, recounted}
+pub use Rattle.documents.specs.History.{text_back, with_end, with_group}
 pub use Rattle.documents.specs.Indices.{place_at}
 pub use Rattle.documents.specs.Inside.{parts_of}
 pub use Rattle.documents.specs.Kept.{AreMarked, HasOwnMarks, IsMarked, IsOrderly, IsSeated, IsSound, Stands}
@@ -53,7 +53,8 @@ pub use Rattle.documents.specs.Options.{AreLines, IsLine, anchor_at, settings_of
 pub use Rattle.documents.specs.Promise.{Change, Does, Gives, answered, change_with, edited, refused, unless_idle}
 pub use Rattle.documents.specs.Ranges.{spans_shown}
 pub use Rattle.documents.specs.Seats.{IsLonger}
-pub use Rattle.documents.specs.Tags.{add_spans, known_or, remove_spans, reordered, tag_delete, tags_on}
+pub use Rattle.documents.specs.Tags.{add_spans, known_or, moved_answer, remove_spans, reordered, tag_delete, tags_on}
+pub use Rattle.documents.specs.Tags.{unknown_at}
 pub use Rattle.documents.specs.Texts.{insert_at, insertion_at, insertion_offset, joined_text, keyed_text, tags_with}
 pub use Rattle.documents.specs.Texts.{within_limits}
 pub use Rattle.documents.specs.Told.{Foretells, IsTold, reply_of}
@@ -67,9 +68,8 @@ pub use Rattle.documents.specs.declared.mark_lists.MarkKind.{MarkKind}
 pub use Rattle.documents.specs.declared.mark_lists.MarkKind.TheVariants.{Current, Shared}
 pub use Rattle.edit_ops.proofs.AnchoredLaws.{all-moved, all-removed, anchored-stand}
 pub use Rattle.edit_ops.proofs.KeepLaws.{deleted-kept, deleted-runs, replaced-kept, texts-kept}
-pub use Rattle.edit_ops.proofs.ReversalLaws.{back-cons, back-reverted, back-undone, group-redone-text}
-pub use Rattle.edit_ops.proofs.ReversalLaws.{group-undone-text, guarded, guarded-holds, redone-kept, redone-text}
-pub use Rattle.edit_ops.proofs.ReversalLaws.{undone-kept}
+pub use Rattle.edit_ops.proofs.ReversalLaws.{back-reverted, back-undone, group-redone-text, puts-in, redone-text}
+pub use Rattle.edit_ops.proofs.ReversalLaws.{stood-cells, takes-out}
 pub use Rattle.edit_ops.proofs.StartLaws.{Begins, inserted-behind, is-start, removed-behind, text-end-begins}
 pub use Rattle.edit_ops.specs.Anchors.{AnchorsStand, AreAnchored, anchors_moved, anchors_removed}
 pub use Rattle.edit_ops.specs.Deletions.{AreApart, delete_set, deleted, deletions_in, in_spans, removed_spans}
@@ -78,9 +78,8 @@ pub use Rattle.edit_ops.specs.Deltas.{KnowsDelta}
 pub use Rattle.edit_ops.specs.Insertions.{inserted_text, inserted_texts, pieces_text, slots_or}
 pub use Rattle.edit_ops.specs.Plans.{planned}
 pub use Rattle.edit_ops.specs.Removals.{clipped, removed_span, replaced_span}
-pub use Rattle.edit_ops.specs.Replays.{AreScalars, replayed, replays}
-pub use Rattle.edit_ops.specs.Reversals.{action_redone, group_redone, group_undone, log_redone, log_undone, put_back}
-pub use Rattle.edit_ops.specs.Reversals.{redo_end, taken_back, undo_end}
+pub use Rattle.edit_ops.specs.Replays.{AreScalars, replayed_group, replays}
+pub use Rattle.edit_ops.specs.Reversals.{action_redone, group_redone, put_back, redo_end, taken_back}
 pub use Rattle.edit_ops.specs.States.{Log, State, log_noted, log_of, state_of}
 pub use Rattle.edit_ops.specs.Tagging.{SpanFits, cell_without, cleared, tagged}
 pub use Rattle.edit_ops.specs.Told.{AreExact, AreFalling, Tells, after_change, deletion, insertion, replacing}
@@ -125,8 +124,8 @@ pub use Rattle.reports.specs.declared.keys.Key.{Key}
 pub use Rattle.reports.specs.declared.told.EditTold.{EditTold}
 pub use Rattle.search_dump.specs.Dump.{Outlook, dump_elements, name_of_rank, seen_by, usable_by}
 pub use Rattle.std.proofs.Math.ListN.{replicate}
-pub use Rattle.std.proofs.lemmas.Bool.{false≢true, and_parts, cases_lt, false_from_ne_true, le-leb, le-ltb, lt-ltb}
-pub use Rattle.std.proofs.lemmas.Bool.{ltb-false, ltb-true, or_left, or_right}
+pub use Rattle.std.proofs.lemmas.Bool.{false≢true, cases_lt, false_from_ne_true, le-leb, le-ltb, lt-ltb, ltb-false}
+pub use Rattle.std.proofs.lemmas.Bool.{or_left, or_parts, or_right}
 pub use Rattle.std.proofs.lemmas.Bool.Decides.{nat_tests}
 pub use Rattle.std.proofs.lemmas.Grind.{get_or-set_at}
 pub use Rattle.std.proofs.lemmas.List.{drop_all, get_or-drop, get_or-map, get_or-set_other, get_or-take}
@@ -153,7 +152,6 @@ pub use Rattle.std.specs.Prelude.{◌↔◌, Box, IfErr, IsErr, IsErrAnd, IsOk, 
 pub use Rattle.std.specs.Prelude.{reverse, unwrap_or}
 pub use Rattle.tag_table.specs.Priority.{IsOrdered, IsUnknown, Order, lowered, raised}
 pub use Rattle.tag_table.specs.Tags.{AreTags, Tag, Tags, first_slot, names_of, sel, slot_of, slots_of}
-pub use Rattle.tag_table.specs.declared.faults.NoSuchTag.TheVariants.{Moved, Neighbour}
 pub use Rattle.tcl_words.proofs.ListGrowth.{goes_nowhere, goes_on}
 pub use Rattle.tcl_words.specs.ListGrowth.{Goes}
 pub use Rattle.tcl_words.specs.ListText.{list_text}
@@ -166,6 +164,7 @@ pub use Rattle.text_index.specs.Positions.{position_text}
 pub use Rattle.text_index.specs.Ranges.{and_later, next_range, previous_range, ranges_from, tag_ranges}
 pub use Rattle.text_index.specs.Views.{IsView, Part, own_place, shared_place, shown_mark}
 pub use Rattle.text_index.specs.Words.{is_word}
+pub use Rattle.text_index.specs.declared.ranges.TagRange.{TagRange}
 pub use Rattle.text_model.proofs.CellLaws.{characters-inserted, characters-removed, characters-with_slot}
 pub use Rattle.text_model.proofs.CellLaws.{characters-without_slots}
 pub use Rattle.text_model.proofs.DocumentLaws.{IsDocument-inserted, IsDocument-new, IsDocument-removed}
@@ -175,7 +174,7 @@ pub use Rattle.text_model.specs.Changes.{flag_at}
 pub use Rattle.text_model.specs.Content.{Content, Marks, Slots, flags, map_marks, new_content, slot_sets}
 pub use Rattle.text_model.specs.Documents.{IsDocument, MarksStand, ends_in_newline}
 pub use Rattle.text_model.specs.LimitTable.{AreLimits, LimitTable}
-pub use Rattle.text_model.specs.Lines.{IsLineStart, is_newline, line_of, line_start, lines}
+pub use Rattle.text_model.specs.Lines.{IsLineStart, line_of, line_start, lines}
 pub use Rattle.text_model.specs.Splices.{changed, drawn, goes_behind, inserted, is_right, moved, removed}
 pub use Rattle.text_model.specs.Steps.{after_insertion, after_removal, after_step, cells_of, with_slot, without_slots}
 pub use Rattle.text_model.specs.declared.cells.Cell.{Cell}
@@ -189,11 +188,11 @@ pub use Rattle.text_model.specs.declared.places.TagSlot.{TagSlot}
 pub use Rattle.undo_stack.proofs.FitsLaws.{last-apart, limited-fits, note-fits, nothing-fits, redo-fits, redo-goes}
 pub use Rattle.undo_stack.proofs.FitsLaws.{separated-fits, undo-fits, undo-goes}
 pub use Rattle.undo_stack.proofs.OriginLaws.{note-origin, redo-origin, revert-groups-back, undo-origin}
-pub use Rattle.undo_stack.specs.Fits.{FitsText, put_in, repeated, repeated_group, repeated_groups, reverted_group}
-pub use Rattle.undo_stack.specs.Fits.{reverted_groups, take_out}
-pub use Rattle.undo_stack.specs.History.{History, after_redo, after_undo, limit_of, limited, newest, next_redo}
-pub use Rattle.undo_stack.specs.History.{next_undo, no_history, noted, separated}
-pub use Rattle.undo_stack.specs.Modified.{counted_down, counted_new, counted_up, set_to, times, unmodified}
+pub use Rattle.undo_stack.specs.Fits.{FitsText, put_in, repeated, repeated_group, repeated_groups, reverted_groups}
+pub use Rattle.undo_stack.specs.Fits.{take_out}
+pub use Rattle.undo_stack.specs.History.{History, limit_of, limited, newest, next_redo, next_undo, no_history, noted}
+pub use Rattle.undo_stack.specs.History.{separated}
+pub use Rattle.undo_stack.specs.Modified.{Modified, counted_new, set_to, times, unmodified}
 pub use Rattle.undo_stack.specs.Rings.{Kept}
 pub use Rattle.undo_stack.specs.declared.actions.Action.{Action}
 pub use Rattle.undo_stack.specs.declared.actions.EditKind.{EditKind}

@@ -1,15 +1,14 @@
 -- What holds of a document by its widgets and marks alone, and stays where cells come or go, holds after each edit of
 -- the text.
-use Rattle.documents.proofs.Common.{◌≡◌, ℕ, ◌+◌, ◌-◌, ◌==◌, true, false, List, [], ◌∷◌, Option, Some, None, map, length}
-use Rattle.documents.proofs.Common.{refl, subst, replays, LimitTable, Place, Action, EditKind, Span, in_spans, clipped}
-use Rattle.documents.proofs.Common.{redo_end, undo_end, Pair, total, delete_spans, deleted_runs, last_bare}
-use Rattle.documents.proofs.Common.{replace_span, with_clipped, Document, Widget, KeyedCell, characters, KeyedText}
-use Rattle.documents.proofs.Common.{keys_between, keys_or, with_action, with_bare, with_cells, with_text, with_texts}
-use Rattle.documents.proofs.Common.{without_cells, without_span, without_spans, with_insert, spans_shown, action_again}
-use Rattle.documents.proofs.Common.{edit_redo, edit_undo, group_again, group_back, redone, text_back, undone, with_end}
-use Rattle.documents.proofs.Common.{insert_at, insertion_offset, keyed_text, tags_with, view_end, slice_range}
-use Rattle.documents.proofs.Common.{if◌then◌else◌}
-use Rattle.documents.proofs.BackLaws.{again-back, redo-carried, undo-carried}
+use Rattle.documents.proofs.Common.{Bool, with_group, edit_group, ◌≡◌, ℕ, ◌+◌, ◌-◌, ◌==◌, true, false, List, [], ◌∷◌}
+use Rattle.documents.proofs.Common.{Option, Some, None, map, length, refl, replays, LimitTable, Place, Action, EditKind}
+use Rattle.documents.proofs.Common.{Span, in_spans, clipped, redo_end, Pair, total, delete_spans, deleted_runs}
+use Rattle.documents.proofs.Common.{last_bare, replace_span, with_clipped, Document, Widget, KeyedCell, characters}
+use Rattle.documents.proofs.Common.{KeyedText, keys_between, keys_or, with_action, with_bare, with_cells, with_text}
+use Rattle.documents.proofs.Common.{with_texts, without_cells, without_span, without_spans, with_insert, spans_shown}
+use Rattle.documents.proofs.Common.{action_again, group_again, text_back, with_end, insert_at, insertion_offset}
+use Rattle.documents.proofs.Common.{keyed_text, tags_with, view_end, slice_range, if◌then◌else◌}
+use Rattle.documents.proofs.BackLaws.{group-carried}
 use Rattle.documents.proofs.CarriedLaws.{IsTextEdited, carried-limited}
 use Rattle.undo_stack.specs.declared.actions.EditKind.TheVariants as kind
 
@@ -121,24 +120,18 @@ module _ (P : Document → Type 0) (steady : IsSteady P) where
   group-again-kept (action ∷ actions) document holds =
       group-again-kept actions (action_again action document) (again-kept action document holds)
 
-  group-back-kept : (group : List Action) (document : Document) → P document → P (group_back group document)
-  group-back-kept group document holds =
-      subst P (again-back group document) (group-again-kept (replays true group) document holds)
-
   end-kept : (widget : Widget) (end : Option ℕ) (document : Document) → P document → P (with_end widget end document)
   end-kept widget None document holds = holds
   end-kept widget (Some at) document holds =
       clipped-kept widget (Some (record widget.insert { offset = at })) document holds
 
-  pub steady-undone : (document : Document) (widget : Widget) → P document → P (edit_undo document widget).document
-  steady-undone document widget holds = undo-carried P document widget holds (λ group _.
-      steady.alike (with_end widget (undo_end group) (group_back group document)) (undone widget group document) refl refl
-      (end-kept widget (undo_end group) (group_back group document) (group-back-kept group document holds)))
-
-  pub steady-redone : (document : Document) (widget : Widget) → P document → P (edit_redo document widget).document
-  steady-redone document widget holds = redo-carried P document widget holds (λ group _.
-      steady.alike (with_end widget (redo_end group) (group_again group document)) (redone widget group document) refl
-      refl (end-kept widget (redo_end group) (group_again group document) (group-again-kept group document holds)))
+  pub steady-group : (back : Bool) (document : Document) (widget : Widget) → P document
+      → P (edit_group back document widget).document
+  steady-group back document widget holds = group-carried P back document widget holds (λ group _.
+      let actions = replays back group in
+      let made : Document = with_end widget (redo_end actions) (group_again actions document) in
+      steady.alike made (with_group back widget group document) refl refl
+      (end-kept widget (redo_end actions) (group_again actions document) (group-again-kept actions document holds)))
 
   pub steady-edited : (limits : LimitTable) (document : Document) (widget : Widget) → P document
       → IsTextEdited limits document widget P
@@ -148,6 +141,5 @@ module _ (P : Document → Type 0) (steady : IsSteady P) where
     replaced = λ from to pairs _ _. steady-replaced limits document widget (insertion_offset document widget from)
         (insertion_offset document widget to) pairs holds;
     deleted = λ places _ _. steady-deleted document widget (spans_shown document widget places) holds;
-    undone = steady-undone document widget holds;
-    redone = steady-redone document widget holds;
+    grouped = λ back. steady-group back document widget holds;
   }

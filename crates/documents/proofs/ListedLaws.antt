@@ -1,8 +1,9 @@
 -- What is listed of a document: the names of its marks and of its tags.
-use Rattle.documents.proofs.Common.{◌≡◌, ℕ, suc, ◌+◌, ◌≤◌, List, [], ◌∷◌, length, refl, sym, ap, ◌∙◌, arith, slice_get}
-use Rattle.documents.proofs.Common.{slice_index_or, IsUtf8, get_or_past, length-map, get_or_from_slice_get}
-use Rattle.documents.proofs.Common.{chars_from_encodes, Mark, Goes, list_text, literal, Document, Parts, Stands}
-use Rattle.documents.proofs.Common.{IsUtf8-string_bytes, mark_names, string_bytes, subst, Some, chars}
+use Rattle.documents.proofs.Common.{ap₂, Bool, range_words, ◌≡◌, ℕ, suc, ◌+◌, ◌≤◌, List, [], ◌∷◌, length, refl, sym, ap}
+use Rattle.documents.proofs.Common.{◌∙◌, arith, slice_get, slice_index_or, IsUtf8, get_or_past, length-map}
+use Rattle.documents.proofs.Common.{get_or_from_slice_get, chars_from_encodes, Mark, Goes, list_text, literal, Document}
+use Rattle.documents.proofs.Common.{Parts, Stands, IsUtf8-string_bytes, mark_names, string_bytes, subst, Some, chars}
+use Rattle.documents.proofs.Common.{TagRange}
 use Rattle.std.specs.declared.string.String.{String}
 use Rattle.mark_table.specs.SharedMarks.{names_of}
 use Rattle.tag_table.specs.Tags.{names_of as tag_names}
@@ -17,6 +18,14 @@ pub listed : {Z : Type 0} {before : List ℕ} (new : String Z) (elements : List 
     Goes before (string_bytes new) elements → chars (string_bytes new) ≡ list_text elements
 listed new elements none goes = written (string_bytes new) elements (IsUtf8-string_bytes new)
     (subst (λ bytes. Goes bytes (string_bytes new) elements) none goes)
+
+-- that of ranges of a tag in what is shown, by the flags of the tag
+pub ranges-listed : {Z : Type 0} {before text shown : List ℕ} {flags known : List Bool} (new : String Z)
+    (ranges : List Bool → List TagRange) → before ≡ [] → Goes before (string_bytes new) (range_words text (ranges flags))
+    → text ≡ shown → flags ≡ known → chars (string_bytes new) ≡ list_text (range_words shown (ranges known))
+ranges-listed {text = text} {flags = flags} new ranges none goes text_is flags_are =
+    listed new (range_words text (ranges flags)) none goes
+    ∙ ap₂ (λ t fs. list_text (range_words t (ranges fs))) text_is flags_are
 
 pub tags-listed : {parts : Parts} {document : Document} → Stands parts document →
     tag_names parts.tags.tags ≡ document.tags

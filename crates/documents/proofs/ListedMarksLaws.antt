@@ -4,26 +4,17 @@ use Rattle.documents.proofs.Common.{refl, sym, ap, ap₂, ◌∙◌, inl, inr, o
 use Rattle.documents.proofs.Common.{true≢false, false≢true, All-head, All-nil, All-push, All-tail, arith, map-append}
 use Rattle.documents.proofs.Common.{map-map, flat_map-map, same_Some, slice_get, take-found, position_from, is_among}
 use Rattle.documents.proofs.Common.{is_own, is_same, literal, Document, Parts, SharedMark, Widget, mark_unset}
-use Rattle.documents.proofs.Common.{mark_number, placed, widget_at, widget_of, Stands, Mark, Named, suc, AreListed}
-use Rattle.documents.proofs.Common.{shared_key, AreOthers, AreSingle, AreWatched, HasMarksBut, mark_at, mark_key}
-use Rattle.documents.proofs.Common.{mark_keys, own_keys, watched, MarkChange, MarkKey, flat_map, flat_map-append}
-use Rattle.documents.proofs.Common.{among-other, words-are}
+use Rattle.documents.proofs.Common.{mark_number, placed, widget_of, Stands, Mark, Named, suc, AreListed, shared_key}
+use Rattle.documents.proofs.Common.{AreOthers, AreSingle, AreWatched, HasMarksBut, mark_at, mark_key, mark_keys}
+use Rattle.documents.proofs.Common.{own_keys, watched, MarkChange, MarkKey, flat_map, flat_map-append, among-other}
+use Rattle.documents.proofs.Common.{words-are}
 use Rattle.name_list.specs.Names.{names_of}
 use Rattle.documents.proofs.MarkReportLaws.{all-back, all-front, by-kind, current_key, insert_key}
 use Rattle.documents.proofs.MarksToldLaws.{left-none, left-other, same-number, sought}
-use Rattle.documents.proofs.PartsLaws.{widget-is}
 use Rattle.documents.proofs.PlacedLaws.{StandsMark, found_mark}
-use Rattle.documents.proofs.SeatLaws.{seat-named}
 use Rattle.mark_table.specs.SharedMarks.{names_of as mark_names}
 
 -- ---- the mark of a name
-
-pub seat-name : {parts : Parts} {document : Document} (place : ℕ) (name : List ℕ) → Stands parts document →
-    slice_get (names_of parts.seats.entries) place ≡ Some name → name ≡ (widget_at document place).name
-seat-name {parts} {document} place name stands is =
-    let found = seat-named parts.seats.entries place name is in
-    sym found.named
-    ∙ ap (λ (w : Widget). w.name) (sym (widget-is parts document place found.seat stands.is found.stands))
 
 pub key-insert : (widget : Widget) (name word : List ℕ) → name ≡ widget.name → is_same word (literal "insert") ≡ true →
     insert_key name ≡ mark_key widget word

@@ -4,8 +4,7 @@ use Rattle.documents.proofs.Common.{length, refl, sym, ap, subst, ◌∙◌, ari
 use Rattle.documents.proofs.Common.{if◌then◌else◌, none-some, same_Some, chars-nil, Tag, names_of, slots_of}
 use Rattle.documents.proofs.Common.{append_assoc, append-nil, map-append, ranges_from-first, goes_nowhere, goes_on}
 use Rattle.documents.proofs.Common.{Goes, Option, chars, take, position_text, tag_ranges, ranges_from, and_later}
-use Rattle.documents.proofs.Common.{take-found, filter-in, filter-out, is_filled, range_words}
-use Rattle.text_index.specs.declared.ranges.TagRange.{TagRange}
+use Rattle.documents.proofs.Common.{take-found, filter-in, filter-out, is_filled, range_words, TagRange}
 
 range_words-append : (text : List ℕ) (ranges more : List TagRange) →
     range_words text (ranges ++ more) ≡ range_words text ranges ++ range_words text more

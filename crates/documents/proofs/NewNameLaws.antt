@@ -1,13 +1,11 @@
 -- The names of the widgets that a document has after a command.
 use Rattle.documents.proofs.Common.{◌≡◌, ℕ, ◌<◌, ◌||◌, Bool, true, false, List, [], ◌∷◌, ◌++◌, length, refl, sym, ap}
 use Rattle.documents.proofs.Common.{◌∙◌, arith, ◌⊎◌, inl, inr, length-append, length-map, map-append, bytes_eq-Decides}
-use Rattle.documents.proofs.Common.{LimitTable, separated, Settings, is_among, is_same, Document, Widget}
-use Rattle.documents.proofs.Common.{is_window_name, spans_shown, insertion_offset, window_names, new_widget, with_peer}
-use Rattle.documents.proofs.Common.{if◌then◌else◌}
+use Rattle.documents.proofs.Common.{LimitTable, Settings, is_among, is_same, Document, Widget, is_window_name}
+use Rattle.documents.proofs.Common.{window_names, new_widget, with_peer}
+use Rattle.documents.proofs.CarriedLaws.{carried-quiet, carried-tagged, carried-marked, IsCarried}
+use Rattle.documents.proofs.NamesKeptLaws.{names-edited, widget-changed, HasNamesOf}
 use mathlib.Core.Bool.{or_assoc}
-use Rattle.documents.proofs.CarriedLaws.{IsCarried, carried-reordered}
-use Rattle.documents.proofs.NamesKeptLaws.{HasNamesOf, add-kept, delete-kept, insert-kept, mark-kept, redo-kept}
-use Rattle.documents.proofs.NamesKeptLaws.{remove-kept, replace-kept, set-kept, undo-kept}
 
 pub among-append : (name : List ℕ) (names others : List (List ℕ)) →
     is_among name (names ++ others) ≡ (is_among name names || is_among name others)
@@ -35,37 +33,24 @@ named-same windows old new same = record {
 pub named-carried : (limits : LimitTable) (windows : List (List ℕ)) (document : Document) (widget : Widget)
     → IsCarried limits document widget (AreNamed windows document)
 named-carried limits windows document widget =
-    let kept : (new : Document) → HasNamesOf document new →
-    AreNamed windows document new = named-same windows document in
+    let P : Document → Type 0 = AreNamed windows document in
+    let kept : (new : Document) → HasNamesOf document new → P new = named-same windows document in
+    let edited = names-edited limits document widget in
     record {
-      quiet = record {
-        same = kept document refl;
-        ordered = λ position order words. carried-reordered (AreNamed windows document) document position order words
-            (kept document refl) (λ tags. kept _ refl);
-        modified = λ flag. kept _ refl;
-        separated = kept _ (elim document.undo as
-            (λ b. HasNamesOf document (if b then record document { history = separated document.history }
-            else document)) [ true ↦ refl | false ↦ refl ]);
-      };
-      tagged = record {
-        added = λ name places. kept _ (add-kept limits document widget name places);
-        removed = λ name places. kept _ (remove-kept document widget name places);
-        untagged = λ names. kept _ refl;
-      };
-      marked = record {
-        turned = λ name old gravity _. kept _ (mark-kept document widget name (record old { gravity = gravity }));
-        set = λ name offset found. kept _ (set-kept limits document widget name offset found);
-        unset = λ names. kept _ refl;
-      };
+      quiet = carried-quiet P limits document widget (kept document refl) (λ tags. kept _ refl) (λ modified. kept _ refl)
+          (kept _ refl);
+      tagged = carried-tagged P limits document widget (kept document refl) (λ tags cells _. kept _ refl);
+      marked = carried-marked P limits document widget (kept document refl)
+          (λ place. kept _ (widget-changed document widget (λ (other : Widget). record other { insert = place })
+          (λ other. refl)))
+          (λ place. kept _ (widget-changed document widget (λ (other : Widget). record other { current = place })
+          (λ other. refl)))
+          (λ marks. kept _ refl);
       edited = record {
-        inserted =
-            λ place pairs _. kept _ (insert-kept limits document widget (insertion_offset document widget place) pairs);
-        replaced = λ from to pairs _ _.
-            kept _ (replace-kept limits document widget (insertion_offset document widget from)
-            (insertion_offset document widget to) pairs);
-        deleted = λ places _ _. kept _ (delete-kept document widget (spans_shown document widget places));
-        undone = kept _ (undo-kept document widget);
-        redone = kept _ (redo-kept document widget);
+        inserted = λ place pairs busy. kept _ (edited.inserted place pairs busy);
+        replaced = λ from to pairs busy ordered. kept _ (edited.replaced from to pairs busy ordered);
+        deleted = λ places busy within. kept _ (edited.deleted places busy within);
+        grouped = λ back. kept _ (edited.grouped back);
       };
     }
 

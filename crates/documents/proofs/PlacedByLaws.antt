@@ -110,7 +110,7 @@ shared-along goes name (mark ∷ marks) =
     ]
 
 -- cells are put in, or taken out
-cells-put : (at : ℕ) (cells : List KeyedCell) (document : Document)
+pub cells-put : (at : ℕ) (cells : List KeyedCell) (document : Document)
     → TakesEach (moved at (length cells)) document (with_cells at cells document)
 cells-put at cells document =
     let goes : Place → Place = moved at (length cells) in
@@ -120,7 +120,7 @@ cells-put at cells document =
     (λ name. own-along (λ (w : Widget). w.current) change goes name document.widgets (λ w. refl) (λ w. refl))
     (λ name. shared-along goes name document.marks)
 
-cells-out : (from to : ℕ) (document : Document) → TakesEach (drawn from to) document (without_cells from to document)
+pub cells-out : (from to : ℕ) (document : Document) → TakesEach (drawn from to) document (without_cells from to document)
 cells-out from to document =
     let goes : Place → Place = drawn from to in
     let change : Widget → Widget = widget_drawn (characters document.cells) from to in

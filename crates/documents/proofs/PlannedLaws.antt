@@ -1,11 +1,11 @@
 -- What is reported of a plan of texts that was carried out.
-use Rattle.documents.proofs.Common.{◌≡◌, ℕ, ◌+◌, true, false, List, map, refl, sym, ap, nat_lt, if◌then◌else◌}
-use Rattle.documents.proofs.Common.{false≢true, is_ok, Tags, Document, Change, LimitTable, TooManyTags, TextTooLong}
-use Rattle.documents.proofs.Common.{refused, within_limits, Pair, piece_of, joined_text, Does, Ok, Empty, Err, Memory}
-use Rattle.documents.proofs.Common.{◌≢◌, flat_map-map, Widget, insert_at, replace_span, replaced, with_texts}
-use Rattle.documents.proofs.Common.{keyed_text, tags_with, total, edited, ◌-◌, Stands, Parts, AreTags, IsFront}
-use Rattle.documents.proofs.Common.{key_pairs, keyed, insertion, deletion, Cell, characters, [], ◌∷◌, ◌∙◌, length}
-use Rattle.documents.proofs.Common.{pieces_text, SlottedText, keyed-more}
+use Rattle.documents.proofs.Common.{◌≡◌, ℕ, ◌+◌, true, List, map, refl, sym, ap, false≢true, is_ok, Tags, Document}
+use Rattle.documents.proofs.Common.{Change, LimitTable, within_limits, Pair, piece_of, joined_text, Does, Ok, Empty}
+use Rattle.documents.proofs.Common.{Err, Memory, ◌≢◌, flat_map-map, Widget, insert_at, replace_span, replaced}
+use Rattle.documents.proofs.Common.{with_texts, keyed_text, tags_with, total, edited, ◌-◌, Stands, Parts, AreTags}
+use Rattle.documents.proofs.Common.{IsFront, key_pairs, keyed, insertion, deletion, Cell, characters, [], ◌∷◌, ◌∙◌}
+use Rattle.documents.proofs.Common.{length, pieces_text, SlottedText, keyed-more}
+use Rattle.documents.proofs.CarriedLaws.{within-either}
 use Rattle.edit_ops.specs.Inserted.{replacement}
 use Rattle.text_model.specs.Content as model
 use Rattle.undo_stack.specs.declared.actions.EditKind.TheVariants as kind
@@ -23,17 +23,8 @@ pub edits-within : (limits : LimitTable) (document : Document) (tags chars : ℕ
     is_ok (within_limits limits document tags chars change).reply ≡ true
     → change.edits ≡ (within_limits limits document tags chars change).edits
 edits-within limits document tags chars change =
-    let P : Change → Type 0 = λ is. is_ok is.reply ≡ true → change.edits ≡ is.edits in
-    elim (nat_lt (limits.tags + 1) tags) as
-    (λ b. P (if b then refused document TooManyTags
-    else (if nat_lt limits.chars chars then refused document TextTooLong else change))) [
-      | true ↦ λ ok. absurd (false≢true ok)
-      | false ↦ elim (nat_lt limits.chars chars) as
-          (λ b. P (if b then refused document TextTooLong else change)) [
-            | true ↦ λ ok. absurd (false≢true ok)
-            | false ↦ λ _. refl
-          ]
-    ]
+    within-either (λ (is : Change). is_ok is.reply ≡ true → change.edits ≡ is.edits) limits document tags chars change
+    (λ fault ok. absurd (false≢true ok)) (λ _ _. refl)
 
 pub answered-ok : {limits : LimitTable} {old new : Document} {change : Change} → Does limits old new (Ok Empty) change
     → is_ok change.reply ≡ true

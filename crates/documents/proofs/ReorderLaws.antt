@@ -1,7 +1,8 @@
 -- What `raise` and `lower` answer.
-use Rattle.documents.proofs.Common.{◌≡◌, ℕ, List, Option, None, Some, sym, ap, ap₂, ◌∙◌, ◌+◌, Moved, Neighbour, Tag}
-use Rattle.documents.proofs.Common.{Empty, NoSuchTag, answered, refused, known_or, reordered, Document, is_among}
-use Rattle.documents.proofs.Common.{if◌then◌else◌, IsOrdered, IsUnknown, Order, names_of}
+use Rattle.documents.proofs.Common.{◌≡◌, ℕ, List, Option, None, Some, sym, ap, ap₂, ◌∙◌, ◌+◌, Tag, Empty, NoSuchTag}
+use Rattle.documents.proofs.Common.{answered, refused, known_or, reordered, Document, is_among, if◌then◌else◌}
+use Rattle.documents.proofs.Common.{IsOrdered, IsUnknown, Order, names_of, unknown_at}
+use Rattle.tag_table.specs.declared.faults.NoSuchTag.TheVariants.{Moved, Neighbour}
 use Rattle.tag_table.specs.declared.faults.NoSuchTag as table_fault
 
 -- the answer where the tags are ordered
@@ -21,10 +22,6 @@ reordered-made document position order name (Some other) tags new is ordered =
     ∙ sym ordered.names)
 
 -- the answer where one isn't known
-abbrev pub unknown_at : ℕ → table_fault.NoSuchTag → ℕ
-unknown_at position Moved = position
-unknown_at position Neighbour = position + 1
-
 pub reordered-unknown : (document : Document) (position : ℕ) (order : Order) (name : List ℕ) (other : Option (List ℕ))
     (tags : List Tag) (fault : table_fault.NoSuchTag) → document.tags ≡ names_of tags
     → IsUnknown name other tags fault → reordered document position order (name, other)

@@ -1,23 +1,19 @@
 -- A document after a group is undone or redone.
-use Rattle.documents.proofs.Common.{◌≡◌, ℕ, ◌+◌, ◌*◌, ◌<◌, ◌≤◌, ◌&&◌, true, false, List, [], ◌∷◌, Option, None}
-use Rattle.documents.proofs.Common.{guarded-holds, Some, Ok, length, refl, sym, ap, subst, ◌∙◌, arith, true≢false}
-use Rattle.documents.proofs.Common.{slice_range, bytes_eq, nat_lt, nat_le, option_and_then, IfSome, if◌then◌else◌}
-use Rattle.documents.proofs.Common.{IsScalar, All, and_parts, nat_tests, All-head, All-tail, option_and_then_some}
-use Rattle.documents.proofs.Common.{same_Some, MOST_CHARS, Place, Content, AreLimits, LimitTable, inserted, removed}
-use Rattle.documents.proofs.Common.{length-inserted, length-removed, FitsText, put_in, take_out, repeated}
-use Rattle.documents.proofs.Common.{repeated_group, reverted_group, after_redo, after_undo, limit_of, next_redo}
-use Rattle.documents.proofs.Common.{next_undo, counted_down, counted_up, times, Action, redo-goes, undo-goes}
-use Rattle.documents.proofs.Common.{action_redone, group_redone, group_undone, log_redone, log_undone, put_back}
-use Rattle.documents.proofs.Common.{redo_end, taken_back, undo_end, Log, State, group-redone-text, group-undone-text}
-use Rattle.documents.proofs.Common.{guarded, redone-kept, redone-text, undone-kept, shared_slots, Empty, recording_of}
-use Rattle.documents.proofs.Common.{with_clipped, Document, Parts, Widget, document_of, widget_at, keys_between}
-use Rattle.documents.proofs.Common.{without_cells, Stands, action_again, edit_redo, edit_undo, group_again, group_back}
-use Rattle.documents.proofs.Common.{redone, text_back, undone, with_end, is_idle, IsWellFormedDocument, replays}
-use Rattle.documents.proofs.Common.{none-some, Bool, ◌↔◌, ◌||◌, not, slice_get, numbers_of, KnowsDelta, planned, Result}
-use Rattle.documents.proofs.Common.{option_map, back-reverted, back-undone, edited, AreScalars, Change, known-shared}
-use Rattle.documents.proofs.Common.{Box, IsSome, Delta, Effects}
-use Rattle.edit_ops.proofs.ReplayLaws.{back-end}
-use Rattle.documents.proofs.BackLaws.{again-back, redo-done, undo-done}
+use Rattle.documents.proofs.Common.{ap₂, state_of, next_group, after_group, recounted, with_group, edit_group, puts-in}
+use Rattle.documents.proofs.Common.{takes-out, stood-cells, replayed_group, ◌≡◌, ℕ, ◌+◌, ◌*◌, ◌<◌, ◌≤◌, ◌&&◌, true}
+use Rattle.documents.proofs.Common.{false, List, [], ◌∷◌, Option, None, Some, Ok, length, refl, sym, ap, subst, ◌∙◌}
+use Rattle.documents.proofs.Common.{arith, true≢false, option_and_then, IfSome, if◌then◌else◌, IsScalar, All, All-head}
+use Rattle.documents.proofs.Common.{All-tail, option_and_then_some, same_Some, MOST_CHARS, Place, Content, AreLimits}
+use Rattle.documents.proofs.Common.{LimitTable, length-inserted, length-removed, FitsText, put_in, take_out, repeated}
+use Rattle.documents.proofs.Common.{repeated_group, limit_of, times, Action, action_redone, group_redone, put_back}
+use Rattle.documents.proofs.Common.{redo_end, taken_back, Log, State, group-redone-text, redone-text, shared_slots}
+use Rattle.documents.proofs.Common.{Empty, with_clipped, Document, Parts, Widget, document_of, widget_at, keys_between}
+use Rattle.documents.proofs.Common.{without_cells, Stands, action_again, group_again, text_back, with_end, is_idle}
+use Rattle.documents.proofs.Common.{IsWellFormedDocument, replays, none-some, Bool, ◌↔◌, ◌||◌, not, slice_get}
+use Rattle.documents.proofs.Common.{numbers_of, KnowsDelta, planned, Result, option_map, back-undone, edited}
+use Rattle.documents.proofs.Common.{AreScalars, known-shared, Box, IsSome, Delta, Effects}
+use Rattle.documents.proofs.BackLaws.{group-replays, group-done}
+use Rattle.edit_ops.proofs.ReplayLaws.{back-end, stood-within}
 use Rattle.documents.proofs.ChangeLaws.{Leaves, does-changed}
 use Rattle.documents.proofs.PartsLaws.{Sits, sits}
 use Rattle.documents.proofs.ReplacementLaws.{insert-there, name-stays, sits-yet, stands-clipped}
@@ -28,36 +24,7 @@ use Rattle.std.specs.FinMap as finite
 use Rattle.text_model.specs.Content as model
 use Rattle.edit_ops.specs.Reversals as edits
 
--- ---- one action
-
--- where a text can be put in
-record CanPut (limit at : ℕ) (text : List ℕ) (content : Content) : Type 0 where
-  pub within : at < length content.cells
-  pub short : length content.cells + length text ≤ limit
-
-can-put : (limit at : ℕ) (text found : List ℕ) (content : Content) →
-    put_in limit at text (model.characters content.cells) ≡ Some found → CanPut limit at text content
-can-put limit at text found content is =
-    let all = model.characters content.cells in
-    let count = counted content in
-    let parts = and_parts (nat_lt at (length all)) (nat_le (length all + length text) limit)
-    (guarded-holds (nat_lt at (length all) && nat_le (length all + length text) limit) (inserted at text all) found
-    is) in
-    let first : at < length all = grind (arith, nat_tests, parts.0) in
-    let second : length all + length text ≤ limit = grind (arith, nat_tests, parts.1) in
-    record { within = omega (arith, first, count); short = omega (arith, second, count) }
-
-can-take : (at : ℕ) (text found : List ℕ) (content : Content) →
-    take_out at text (model.characters content.cells) ≡ Some found → at + length text < length content.cells
-can-take at text found content is =
-    let all = model.characters content.cells in
-    let count = counted content in
-    let parts = and_parts (nat_lt (at + length text) (length all))
-    (bytes_eq (slice_range all at (at + length text)) text)
-    (guarded-holds (nat_lt (at + length text) (length all) && bytes_eq (slice_range all at (at + length text)) text)
-    (removed at (at + length text) all) found is) in
-    let first : at + length text < length all = grind (arith, nat_tests, parts.0) in
-    omega (arith, first, count)
+-- ---- the actions of a group
 
 -- the parts before the group, of which edits change the state alone
 module _ (limit : ℕ) (parts : Parts) (bound : limit ≤ MOST_CHARS) where
@@ -68,11 +35,11 @@ module _ (limit : ℕ) (parts : Parts) (bound : limit ≤ MOST_CHARS) where
       StandsAs state document → put_in limit at text (model.characters state.content.cells) ≡ Some found
       → StandsAs (put_back at text state) (text_back at text document)
   stands-back at text found state document scalars stands is =
-      let can = can-put limit at text found state.content is in
-      let within = can.within in
-      let short = can.short in
+      let puts = puts-in limit at text (model.characters state.content.cells) found is in
+      let inside = puts.inside in let short = puts.short in let count = counted state.content in
+      let within : at < length state.content.cells = omega (arith, inside, count) in
       stands-put (with_state parts state) document at text (shared_slots at state.content.cells)
-      (keys_between document.cells at) stands within (omega (arith, short, bound)) scalars
+      (keys_between document.cells at) stands within (omega (arith, short, count, bound)) scalars
       (known-shared parts.seats.entries parts.tags.tags at state.content.cells stands.sound.kept.known within)
       (keys-put (with_state parts state) document at None stands within)
 
@@ -80,8 +47,10 @@ module _ (limit : ℕ) (parts : Parts) (bound : limit ≤ MOST_CHARS) where
       take_out at text (model.characters state.content.cells) ≡ Some found
       → StandsAs (taken_back at (at + length text) state) (without_cells at (at + length text) document)
   stands-taken at text found state document stands is =
+      let takes = takes-out at text (model.characters state.content.cells) found is in
+      let inside = takes.inside in
       stands-out (with_state parts state) document at (at + length text) stands (omega arith)
-      (can-take at text found state.content is)
+      (omega (arith, inside, counted state.content))
 
   stands-again : (action : Action) (found : List ℕ) (state : State) (document : Document) → All IsScalar action.text →
       StandsAs state document → repeated limit action (model.characters state.content.cells) ≡ Some found
@@ -97,8 +66,6 @@ module _ (limit : ℕ) (parts : Parts) (bound : limit ≤ MOST_CHARS) where
         | false ↦ stands-taken action.at action.text found state document stands
       ] is
 
-  -- ---- groups
-
   group-again : (group : List Action) (found : List ℕ) (state : State) (document : Document) → AreScalars group →
       StandsAs state document
       → repeated_group limit group (model.characters state.content.cells) ≡ Some found →
@@ -113,27 +80,7 @@ module _ (limit : ℕ) (parts : Parts) (bound : limit ≤ MOST_CHARS) where
       (stands-again action between state document (All-head P action actions scalars) stands one)
       (ap (repeated_group limit actions) (redone-text limit action between state one) ∙ others))
 
-  -- the actions that take a group back are made
-  group-back : (group : List Action) (found : List ℕ) (state : State) (document : Document) → AreScalars (replays true group) →
-      StandsAs state document
-      → reverted_group limit group (model.characters state.content.cells) ≡ Some found →
-      StandsAs (group_undone group state) (group_back group document)
-  group-back group found state document scalars stands is =
-      subst (λ (made : State × Document). StandsAs made.0 made.1)
-      (λ i. (back-undone group state i, again-back group document i))
-      (group-again (replays true group) found state document scalars stands
-      (back-reverted limit group (model.characters state.content.cells) ∙ is))
-
 -- ---- where a group ends
-
-stood-within : (end : Option ℕ) (old : Option Place) (len : ℕ) → IfSome end (λ at. at ≤ len) → (place : Place)
-    → option_and_then (λ (p : Place). option_map (λ at. record p { offset = at }) end) old ≡ Some place →
-    place.offset ≤ len
-stood-within end None len within place is = absurd (let h : None ≡ Some place = is in cc)
-stood-within None (Some old) len within place is = absurd (let h : None ≡ Some place = is in cc)
-stood-within (Some at) (Some old) len within place is =
-    let same : at ≡ place.offset = ap (λ (p : Place). p.offset) (same_Some (record old { offset = at }) place is) in
-    omega (arith, same, within)
 
 -- the widget's `insert` stands there
 ended : (limits : LimitTable) (parts : Parts) (made : State) (before document : Document) (place slot : ℕ)
@@ -150,35 +97,25 @@ ended limits parts made before document place slot end seated stands within =
     let put = stands-clipped limits (with_state parts made) document place slot widget found stands
     (sits-yet parts (with_state parts made) before document place slot seated stands refl)
     (name-stays parts (with_state parts made) before document place slot seated stands refl)
-    (stood-within end (finite.get parts.content.marks (2 * slot)) (length made.content.cells) within) in
+    (λ target. stood-within (finite.get parts.content.marks (2 * slot)) end (length made.content.cells) target within) in
     subst (λ o.
     Stands (with_state parts (record made { content = edits.stood (2 * slot) end parts.content made.content }))
     (with_clipped widget o document)) same put
 
--- an action that was reverted, or made again, ends in the text
+-- an action that was made ends in the text
 put-end : (limit at : ℕ) (new text found : List ℕ) → put_in limit at new text ≡ Some found →
     at + length new ≤ length found
 put-end limit at new text found is =
-    let test = nat_lt at (length text) && nat_le (length text + length new) limit in
-    let parts = and_parts (nat_lt at (length text)) (nat_le (length text + length new) limit)
-    (guarded-holds test (inserted at new text) found is) in
-    let first : at < length text = grind (arith, nat_tests, parts.0) in
-    let made = guarded test (inserted at new text) found is in
-    let long = length-inserted at new text (omega (arith, first)) in
-    let same = ap length made in
-    omega (arith, first, long, same)
+    let puts = puts-in limit at new text found is in
+    let inside = puts.inside in
+    omega (arith, inside, length-inserted at new text (omega (arith, inside)), ap length puts.is)
 
 take-end : (at : ℕ) (gone text found : List ℕ) → take_out at gone text ≡ Some found → at ≤ length found
 take-end at gone text found is =
-    let test = nat_lt (at + length gone) (length text) && bytes_eq (slice_range text at (at + length gone)) gone in
-    let parts = and_parts (nat_lt (at + length gone) (length text))
-    (bytes_eq (slice_range text at (at + length gone)) gone)
-    (guarded-holds test (removed at (at + length gone) text) found is) in
-    let first : at + length gone < length text = grind (arith, nat_tests, parts.0) in
-    let made = guarded test (removed at (at + length gone) text) found is in
-    let long = length-removed at (at + length gone) text (omega arith) (omega (arith, first)) in
-    let same = ap length made in
-    omega (arith, first, long, same)
+    let takes = takes-out at gone text found is in
+    let inside = takes.inside in
+    let long = length-removed at (at + length gone) text (omega arith) (omega (arith, inside)) in
+    omega (arith, inside, long, ap length takes.is)
 
 repeated-end : (limit : ℕ) (action : Action) (text found : List ℕ) → repeated limit action text ≡ Some found →
     (if action.inserts then action.at + length action.text else action.at) ≤ length found
@@ -190,21 +127,15 @@ repeated-end limit action text found is =
       | false ↦ take-end action.at action.text text found
     ] is
 
-redo-end-within : (limit : ℕ) (group : List Action) (text found : List ℕ) →
+end-within : (limit : ℕ) (group : List Action) (text found : List ℕ) →
     repeated_group limit group text ≡ Some found → IfSome (redo_end group) (λ at. at ≤ length found)
-redo-end-within limit [] text found is = tt
-redo-end-within limit (action ∷ []) text found is =
+end-within limit [] text found is = tt
+end-within limit (action ∷ []) text found is =
     option_and_then_some (repeated_group limit []) (repeated limit action text) found is (λ between one others.
     repeated-end limit action text found (one ∙ others))
-redo-end-within limit (action ∷ next ∷ actions) text found is =
+end-within limit (action ∷ next ∷ actions) text found is =
     option_and_then_some (repeated_group limit (next ∷ actions)) (repeated limit action text) found is
-    (λ between one others. redo-end-within limit (next ∷ actions) between found others)
-
-undo-end-within : (limit : ℕ) (group : List Action) (text found : List ℕ) →
-    reverted_group limit group text ≡ Some found → IfSome (undo_end group) (λ at. at ≤ length found)
-undo-end-within limit group text found is =
-    subst (λ end. IfSome end (λ at. at ≤ length found)) (back-end group)
-    (redo-end-within limit (replays true group) text found (back-reverted limit group text ∙ is))
+    (λ between one others. end-within limit (next ∷ actions) between found others)
 
 -- ---- what is kept of the edits then
 
@@ -293,121 +224,77 @@ reversal outcome effects delta {limits = limits} {follows = follows} {back} {mad
       knows = knows;
     })
 
-pub leaves-undone : {limits : LimitTable} {old : Parts} {state : State} {document : Document} {place slot : ℕ}
-    {group : List Action} → CanRevert old document place slot
-    → next_undo old.journal.log.history ≡ Some group → AreReplays limits (replays true group)
-    → IsWellFormedDocument limits document → state ≡ edits.undone (2 * slot) (state_in old)
-    → Leaves limits (with_state old state) document (Ok Empty) (edit_undo document (widget_at document place))
-leaves-undone {limits} {old} {state} {document} {place} {slot} {group} can is reverts formed state_is =
+-- what a group makes of a state
+abbrev pub log_after : Bool → List Action → Log → Log
+log_after back group log = record log {
+  history = after_group back group log.most log.history;
+  modified = times (length group) (recounted back) log.modified;
+}
+
+abbrev pub moved_back : Bool → ℕ → State → State
+moved_back back mark state = if back then edits.undone mark state else edits.redone mark state
+
+moved-is : (back : Bool) (mark : ℕ) (state : State) (group : List Action) →
+    next_group back state.log.history ≡ Some group
+    → moved_back back mark state
+    ≡ record (replayed_group mark (replays back group) state) { log = log_after back group state.log }
+moved-is true mark state group is =
+    ap (λ found. edits.undone_group mark found state) is
+    ∙ sym (ap₂ (λ (made : State) end. state_of (edits.stood mark end state.content made.content) made.anchors
+    (log_after true group state.log)) (back-undone group state) (back-end group))
+moved-is false mark state group is = ap (λ found. edits.redone_group mark found state) is
+
+-- the command does what its plan knows
+pub group-edits : {old : Parts} {document : Document} {place slot : ℕ} {group : List Action} (back : Bool)
+    → CanRevert old document place slot → next_group back old.journal.log.history ≡ Some group
+    → edit_group back document (widget_at document place)
+    ≡ edited (with_group back (widget_at document place) group document) (replays back group)
+group-edits {document = document} {place} {group} back can is =
+    group-done back document (widget_at document place) group
+    (ap (λ (d : Document). d.undo) (sym can.stands.is) ∙ can.on)
+    (ap (λ (d : Document). next_group back d.history) (sym can.stands.is) ∙ is) can.active
+
+pub leaves-group : {limits : LimitTable} {old : Parts} {state : State} {document : Document} {place slot : ℕ}
+    {group : List Action} (back : Bool) → CanRevert old document place slot
+    → next_group back old.journal.log.history ≡ Some group → AreReplays limits (replays back group)
+    → IsWellFormedDocument limits document → state ≡ moved_back back (2 * slot) (state_in old)
+    → Leaves limits (with_state old state) document (Ok Empty) (edit_group back document (widget_at document place))
+leaves-group {limits} {old} {state} {document} {place} {slot} {group} back can is reverts formed state_is =
     let widget : Widget = widget_at document place in
     let stands = can.stands in
     let before : State = state_in old in
-    let log : Log = old.journal.log in
-    let text : List ℕ = model.characters old.content.cells in
+    let log : Log = log_after back group old.journal.log in
+    let actions = replays back group in
     let bounds = reverts.bounds.chars in
-    let fits = fits-kept limits old document stands.is formed in
-    let goes = undo-goes limits.chars log.history text group fits is in
-    let back = group-back limits.chars old (omega (arith, bounds)) group goes.0 before document reverts.scalars stands
-    goes.1 in
-    let left : State = group_undone group before in
-    let within = subst (λ n. IfSome (undo_end group) (λ at. at ≤ n))
-    (sym (ap length (group-undone-text limits.chars group goes.0 before goes.1)) ∙ counted left.content)
-    (undo-end-within limits.chars group text goes.0 goes.1) in
-    let end = ended limits old left document (group_back group document) place slot (undo_end group) can.sits back
+    let goes = group-replays back limits.chars old.journal.log.most old.journal.log.history
+    (model.characters old.content.cells) group (fits-kept limits old document stands.is formed) is in
+    let again = group-again limits.chars old (omega (arith, bounds)) actions goes.found before document reverts.scalars
+    stands goes.is in
+    let left : State = group_redone actions before in
+    let text = group-redone-text limits.chars actions goes.found before goes.is in
+    let within = subst (λ n. IfSome (redo_end actions) (λ at. at ≤ n)) (sym (ap length text) ∙ counted left.content)
+    (end-within limits.chars actions (model.characters old.content.cells) goes.found goes.is) in
+    let end = ended limits old left document (group_again actions document) place slot (redo_end actions) can.sits again
     within in
-    let at_end : Content = edits.stood (2 * slot) (undo_end group) old.content left.content in
-    let all = stands-log (with_state old (record left { content = at_end }))
-    (with_end widget (undo_end group) (group_back group document)) (log_undone group log) end can.on
-    stands.sound.orderly.most in
-    let made : State = edits.undone_group (2 * slot) (Some group) before in
-    let made_is : edits.undone (2 * slot) before ≡ made = ap (λ g. edits.undone_group (2 * slot) g before) is in
+    let made : State = replayed_group (2 * slot) actions before in
+    let all = stands-log (with_state old made) (with_end widget (redo_end actions) (group_again actions document)) log
+    end can.on stands.sound.orderly.most in
     let histories = ap (λ (d : Document). d.history) stands.is in
     let counts = ap (λ (d : Document). d.modified) stands.is in
-    let result : Document = undone widget group document in
-    let all_is : document_of (with_state old made) ≡ result =
-    all.is ∙ λ i. record (with_end widget (undo_end group) (group_back group document))
-    { history = after_undo group (histories i); modified = times (length group) counted_down (counts i) } in
-    let fitting = (undone-kept limits.chars (2 * slot) (recording_of old.journal.settings) before
-    (record { fits = fits; groups = stands.sound.orderly.groups; undone = stands.sound.orderly.undone })).fits in
-    let kept_on = ap (λ (d : Document). d.undo) (sym stands.is) ∙ can.on in
-    subst (λ (s : State). Leaves limits (with_state old s) document (Ok Empty) (edit_undo document widget))
-    (sym (state_is ∙ made_is))
+    let most = stands.sound.orderly.most ∙ ap (λ (d : Document). limit_of d.most_undo) stands.is in
+    let all_is : document_of (with_state old (record made { log = log })) ≡ with_group back widget group document =
+    all.is ∙ λ i. record (with_end widget (redo_end actions) (group_again actions document)) {
+      history = after_group back group (most i) (histories i);
+      modified = times (length group) (recounted back) (counts i);
+    } in
+    subst (λ (s : State). Leaves limits (with_state old s) document (Ok Empty) (edit_group back document widget))
+    (sym (state_is ∙ moved-is back (2 * slot) before group is))
     (does-changed stands (record {
       sound = all.sound;
-      is = undo-done document widget group kept_on (ap next_undo (sym histories) ∙ is) can.active
-          ∙ ap (λ d. edited d (replays true group)) (sym all_is);
-      fits = λ _. subst (λ (s : State). FitsText limits.chars (model.characters s.content.cells) s.log.history) made_is
-          fitting;
+      is = group-edits back can is ∙ ap (λ d. edited d actions) (sym all_is);
+      fits = λ _. subst (λ xs. FitsText limits.chars xs log.history)
+          (sym (ap model.characters (stood-cells (2 * slot) _ left.content) ∙ text)) goes.fits;
       tags = λ few. few;
       marks = λ few. few;
       seats = refl;
     }))
-
-pub leaves-redone : {limits : LimitTable} {old : Parts} {state : State} {document : Document} {place slot : ℕ}
-    {group : List Action} → CanRevert old document place slot
-    → next_redo old.journal.log.history ≡ Some group → AreReplays limits (replays false group)
-    → IsWellFormedDocument limits document → state ≡ edits.redone (2 * slot) (state_in old)
-    → Leaves limits (with_state old state) document (Ok Empty) (edit_redo document (widget_at document place))
-leaves-redone {limits} {old} {state} {document} {place} {slot} {group} can is reverts formed state_is =
-    let widget : Widget = widget_at document place in
-    let stands = can.stands in
-    let before : State = state_in old in
-    let log : Log = old.journal.log in
-    let text : List ℕ = model.characters old.content.cells in
-    let bounds = reverts.bounds.chars in
-    let fits = fits-kept limits old document stands.is formed in
-    let goes = redo-goes limits.chars log.history text group fits is in
-    let again = group-again limits.chars old (omega (arith, bounds)) group goes.0 before document reverts.scalars stands
-    goes.1 in
-    let left : State = group_redone group before in
-    let within = subst (λ n. IfSome (redo_end group) (λ at. at ≤ n))
-    (sym (ap length (group-redone-text limits.chars group goes.0 before goes.1)) ∙ counted left.content)
-    (redo-end-within limits.chars group text goes.0 goes.1) in
-    let end = ended limits old left document (group_again group document) place slot (redo_end group) can.sits again
-    within in
-    let at_end : Content = edits.stood (2 * slot) (redo_end group) old.content left.content in
-    let all = stands-log (with_state old (record left { content = at_end }))
-    (with_end widget (redo_end group) (group_again group document)) (log_redone group log) end can.on
-    stands.sound.orderly.most in
-    let made : State = edits.redone_group (2 * slot) (Some group) before in
-    let made_is : edits.redone (2 * slot) before ≡ made = ap (λ g. edits.redone_group (2 * slot) g before) is in
-    let histories = ap (λ (d : Document). d.history) stands.is in
-    let counts = ap (λ (d : Document). d.modified) stands.is in
-    let most : log.most ≡ limit_of document.most_undo = stands.sound.orderly.most
-    ∙ ap (λ (d : Document). limit_of d.most_undo) stands.is in
-    let result : Document = redone widget group document in
-    let all_is : document_of (with_state old made) ≡ result =
-    all.is ∙ λ i. record (with_end widget (redo_end group) (group_again group document))
-    { history = after_redo group (most i) (histories i); modified = times (length group) counted_up (counts i) } in
-    let fitting = (redone-kept limits.chars (2 * slot) (recording_of old.journal.settings) before
-    (record { fits = fits; groups = stands.sound.orderly.groups; undone = stands.sound.orderly.undone })).fits in
-    let kept_on = ap (λ (d : Document). d.undo) (sym stands.is) ∙ can.on in
-    subst (λ (s : State). Leaves limits (with_state old s) document (Ok Empty) (edit_redo document widget))
-    (sym (state_is ∙ made_is))
-    (does-changed stands (record {
-      sound = all.sound;
-      is = redo-done document widget group kept_on (ap next_redo (sym histories) ∙ is) can.active
-          ∙ ap (λ d. edited d (replays false group)) (sym all_is);
-      fits = λ _. subst (λ (s : State). FitsText limits.chars (model.characters s.content.cells) s.log.history) made_is
-          fitting;
-      tags = λ few. few;
-      marks = λ few. few;
-      seats = refl;
-    }))
-
--- what it does is what its plan knows
-pub undone-edits : {old : Parts} {document : Document} {place slot : ℕ} {group : List Action}
-    → CanRevert old document place slot → next_undo old.journal.log.history ≡ Some group
-    → replays true group ≡ (edit_undo document (widget_at document place)).edits
-undone-edits {document = document} {place} {group = group} can is =
-    sym (ap (λ (change : Change). change.edits) (undo-done document (widget_at document place) group
-    (ap (λ (d : Document). d.undo) (sym can.stands.is) ∙ can.on)
-    (ap (λ (d : Document). next_undo d.history) (sym can.stands.is) ∙ is) can.active))
-
-pub redone-edits : {old : Parts} {document : Document} {place slot : ℕ} {group : List Action}
-    → CanRevert old document place slot → next_redo old.journal.log.history ≡ Some group
-    → replays false group ≡ (edit_redo document (widget_at document place)).edits
-redone-edits {document = document} {place} {group = group} can is =
-    sym (ap (λ (change : Change). change.edits) (redo-done document (widget_at document place) group
-    (ap (λ (d : Document). d.undo) (sym can.stands.is) ∙ can.on)
-    (ap (λ (d : Document). next_redo d.history) (sym can.stands.is) ∙ is) can.active))

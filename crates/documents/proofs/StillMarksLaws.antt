@@ -1,10 +1,7 @@
 -- Commands that are no edit of the text and set no mark leave each mark where it is.
-use Rattle.documents.proofs.Common.{◌≡◌, ℕ, ◌+◌, true, false, List, [], length, refl, ap, option_map, find, nat_lt}
-use Rattle.documents.proofs.Common.{if◌then◌else◌, LimitTable, separated, Empty, TooManyTags, Settings, with_name}
-use Rattle.documents.proofs.Common.{is_among, is_same, Document, SharedMark, Widget, with_tag, modified_set, key_of}
-use Rattle.documents.proofs.Common.{widget_set, with_settings, answered, refused, spans_shown, add_spans, remove_spans}
-use Rattle.documents.proofs.Common.{tag_delete, HasMarksBut, mark_at}
-use Rattle.documents.proofs.CarriedLaws.{IsQuiet, IsTagged, carried-reordered}
+use Rattle.documents.proofs.Common.{◌≡◌, List, [], refl, ap, option_map, find, LimitTable, separated, Settings, is_same}
+use Rattle.documents.proofs.Common.{Document, SharedMark, Widget, widget_set, with_settings, HasMarksBut, mark_at}
+use Rattle.documents.proofs.CarriedLaws.{carried-quiet, carried-tagged, IsQuiet, IsTagged}
 use Rattle.documents.proofs.MarkReportLaws.{by-kind, own-kept}
 
 -- a document with the same marks and the same widgets
@@ -19,48 +16,19 @@ marks-alike document new widgets marks key _ =
     (λ name. ap (λ (ms : List SharedMark). option_map (λ (m : SharedMark). m.place)
     (find (λ (m : SharedMark). is_same name m.name) ms)) marks) key
 
-marks-added : (document : Document) (limits : LimitTable) (widget : Widget) (name places : List ℕ) →
-    HasMarksBut [] document (add_spans limits document widget name places).document
-marks-added document limits widget name places =
-    let tags = with_name document.tags name in
-    let made : Document = record document {
-      tags = tags;
-      cells = with_tag (key_of widget name) true (spans_shown document widget places) document.cells;
-    } in
-    elim (nat_lt (limits.tags + 1) (length tags)) as (λ b.
-    HasMarksBut [] document (if b then refused document TooManyTags else answered made Empty).document)
-    [ true ↦ λ key _. refl | false ↦ marks-alike document made refl refl ]
-
-marks-removed : (document : Document) (widget : Widget) (name places : List ℕ) →
-    HasMarksBut [] document (remove_spans document widget name places).document
-marks-removed document widget name places =
-    let made : Document = record document {
-      cells = with_tag (key_of widget name) false (spans_shown document widget places) document.cells;
-    } in
-    elim (is_among name document.tags) as (λ b. HasMarksBut [] document (if b then made else document))
-    [ true ↦ marks-alike document made refl refl | false ↦ λ key _. refl ]
-
 pub marks-tagged : (document : Document) (limits : LimitTable) (widget : Widget) →
     IsTagged limits document widget (HasMarksBut [] document)
-marks-tagged document limits widget = record {
-  added = λ name places. marks-added document limits widget name places;
-  removed = λ name places. marks-removed document widget name places;
-  untagged = λ names. marks-alike document (tag_delete document names).document refl refl;
-}
+marks-tagged document limits widget =
+    carried-tagged (HasMarksBut [] document) limits document widget (λ key _. refl)
+    (λ tags cells _. marks-alike document (record document { tags = tags; cells = cells }) refl refl)
 
 pub marks-quiet : (document : Document) (limits : LimitTable) (widget : Widget) →
     IsQuiet limits document widget (HasMarksBut [] document)
-marks-quiet document limits widget = record {
-  same = λ key _. refl;
-  ordered = λ position order words. carried-reordered (HasMarksBut [] document) document position order words
-      (λ key _. refl) (λ tags. marks-alike document (record document { tags = tags }) refl refl);
-  modified = λ flag. marks-alike document (modified_set document flag).document refl refl;
-  separated = elim document.undo as (λ b. HasMarksBut [] document
-      (if b then record document { history = separated document.history } else document)) [
-        | true ↦ marks-alike document (record document { history = separated document.history }) refl refl
-        | false ↦ λ key _. refl
-      ];
-}
+marks-quiet document limits widget =
+    carried-quiet (HasMarksBut [] document) limits document widget (λ key _. refl)
+    (λ tags. marks-alike document (record document { tags = tags }) refl refl)
+    (λ modified. marks-alike document (record document { modified = modified }) refl refl)
+    (marks-alike document (record document { history = separated document.history }) refl refl)
 
 -- options of a widget's own
 pub marks-configured : (document : Document) (widget : Widget) (settings : Settings) →

@@ -1,22 +1,28 @@
 -- A document after its tags are put in another order or deleted.
-use Rattle.documents.proofs.Common.{◌≡◌, ℕ, ◌≤◌, Bool, true, false, List, [], ◌∷◌, Option, Err, Ok, cond, filter}
-use Rattle.documents.proofs.Common.{length, map, refl, sym, ap, subst, ◌∙◌, arith, map-map, AreTags, Tag, Tags, Cell}
-use Rattle.documents.proofs.Common.{Content, LimitTable, Log, cell_without, cleared, Empty, NoSuchTag, slots_deleted}
-use Rattle.documents.proofs.Common.{tags_left, stays, Document, Parts, document_of, Stands, answered, reordered}
-use Rattle.documents.proofs.Common.{tag_delete, without_tags, IsOrdered, IsUnknown, Order, names_of, keyed-deleted}
-use Rattle.documents.proofs.Common.{known-deleted, names_left, keyed-reordered, known-reordered}
-use Rattle.documents.proofs.ChangeLaws.{Leaves, does-left, stands-same}
-use Rattle.documents.proofs.ReorderLaws.{reordered-made, reordered-unknown, unknown_at}
+use Rattle.documents.proofs.Common.{OnErr, OnOk, Result, Answer, Fault, IfErr, ◌≡◌, ℕ, ◌≤◌, Bool, true, false, List, []}
+use Rattle.documents.proofs.Common.{◌∷◌, Option, Err, Ok, cond, filter, length, map, refl, sym, ap, subst, ◌∙◌, arith}
+use Rattle.documents.proofs.Common.{map-map, AreTags, Tag, Tags, Cell, Content, LimitTable, Log, cell_without, cleared}
+use Rattle.documents.proofs.Common.{Empty, slots_deleted, tags_left, stays, Document, Parts, document_of, Stands}
+use Rattle.documents.proofs.Common.{answered, reordered, tag_delete, without_tags, IsOrdered, IsUnknown, Order}
+use Rattle.documents.proofs.Common.{names_of, keyed-deleted, known-deleted, names_left, keyed-reordered}
+use Rattle.documents.proofs.Common.{known-reordered, moved_answer}
+use Rattle.documents.proofs.ChangeLaws.{Leaves, leaves-left, stands-same}
+use Rattle.documents.proofs.ReorderLaws.{reordered-made, reordered-unknown}
 use Rattle.documents.proofs.TableLaws.{leaves-relogged, leaves-retagged, relogged, retagged, retagged-is}
 use Rattle.tag_table.specs.declared.faults.NoSuchTag as table_fault
 
 -- ---- another order
 
-pub leaves-ordered : (limits : LimitTable) (old : Parts) (new : Tags) (document : Document) (position : ℕ)
-    (order : Order) (word : List ℕ) (other : Option (List ℕ)) → Stands old document
-    → IsOrdered order word other old.tags.tags new.tags → AreTags new → new.limit ≡ old.tags.limit
-    → Leaves limits (record old { tags = new }) document (Ok Empty) (reordered document position order (word, other))
-leaves-ordered limits old new document position order word other stands ordered sound limit =
+-- one that goes next to another, or one of them isn't known
+pub leaves-moved : {A : Type 0} {old : Parts} {new : Tags} {document : Document} {result : Result Answer Fault}
+    (limits : LimitTable) (position : ℕ) (order : Order) (word : List ℕ) (other : Option (List ℕ))
+    (moved : Result A table_fault.NoSuchTag) → Stands old document
+    → OnOk moved (IsOrdered order word other old.tags.tags new.tags)
+    → IfErr moved (IsUnknown word other old.tags.tags) → OnErr moved (new ≡ old.tags) → new.limit ≡ old.tags.limit
+    → OnOk moved (AreTags new) → result ≡ moved_answer position moved
+    → Leaves limits (record old { tags = new }) document result (reordered document position order (word, other))
+leaves-moved {old = old} {new} {document} limits position order word other (Ok done) stands ordered unknown same limit
+    sound is =
     let seats = old.seats.entries in
     let kept = stands.sound.kept in
     let cells = keyed-reordered seats old.tags.tags new.tags old.content.cells kept.seats.names_apart
@@ -25,7 +31,9 @@ leaves-ordered limits old new document position order word other stands ordered 
     let many = ordered.many in
     let whole = retagged-is old new old.content (document_of old).cells refl cells
     ∙ ap (λ (d : Document). record d { tags = names_of new.tags }) stands.is in
-    leaves-retagged limits old new old.content document (reordered document position order (word, other)) stands
+    subst (λ r. Leaves limits (record old { tags = new }) document r (reordered document position order (word, other)))
+    (sym is)
+    (leaves-retagged limits old new old.content document (reordered document position order (word, other)) stands
     (record {
       tags = sound;
       limit = limit;
@@ -34,23 +42,14 @@ leaves-ordered limits old new document position order word other stands ordered 
       same = refl;
     })
     (λ few. omega (arith, many, few)) (reordered-made document position order word other old.tags.tags new.tags tags
-    ordered ∙ ap (λ (d : Document). answered d Empty) (sym whole))
-
--- one that isn't known
-pub does-unordered : (limits : LimitTable) (old : Parts) (new : Tags) (document : Document) (position : ℕ)
-    (order : Order) (word : List ℕ) (other : Option (List ℕ)) (fault : table_fault.NoSuchTag) → Stands old document
-    → new ≡ old.tags → IsUnknown word other old.tags.tags fault
-    → Leaves limits (record old { tags = new }) document (Err (NoSuchTag (unknown_at position fault)))
-    (reordered document position order (word, other))
-does-unordered limits old new document position order word other fault stands same unknown =
-    let left = stands-same stands (ap (λ (t : Tags). record old { tags = t }) same) in
-    let tags : document.tags ≡ names_of old.tags.tags = ap (λ (d : Document). d.tags) (sym stands.is) in
-    record {
-      sound = left.sound;
-      does = does-left limits document (document_of (record old { tags = new })) (NoSuchTag (unknown_at position fault))
-          (reordered document position order (word, other)) left.is
-          (λ _. reordered-unknown document position order word other old.tags.tags fault tags unknown);
-    }
+    ordered ∙ ap (λ (d : Document). answered d Empty) (sym whole)))
+leaves-moved {old = old} {new} {document} limits position order word other (Err fault) stands ordered unknown same
+    limit sound is =
+    subst (λ r. Leaves limits (record old { tags = new }) document r (reordered document position order (word, other)))
+    (sym is)
+    (leaves-left (stands-same stands (ap (λ (t : Tags). record old { tags = t }) same)) (λ _.
+    reordered-unknown document position order word other old.tags.tags fault
+    (ap (λ (d : Document). d.tags) (sym stands.is)) unknown))
 
 -- ---- tags that are deleted
 

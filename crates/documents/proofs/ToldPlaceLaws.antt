@@ -1,13 +1,13 @@
 -- The changes of the text that are told of a command take each mark to where the command leaves it.
-use Rattle.documents.proofs.Common.{◌≡◌, ℕ, ◌+◌, ◌-◌, ◌≤◌, true, false, List, [], ◌∷◌, length, map, refl, sym, ap, ◌∙◌}
-use Rattle.documents.proofs.Common.{arith, subst, nat_lt, option_map, unwrap_or, All, Fault, IsPlaced, LimitTable}
-use Rattle.documents.proofs.Common.{Place, Pair, Span, TellsCells, TextChange, TextTooLong, TooManyTags, characters}
-use Rattle.documents.proofs.Common.{deletion, insertion, Change, HasMarksBut, MarkChange, MarkKey, carried_all, drawn}
-use Rattle.documents.proofs.Common.{moved, delete_places, delete_spans, deleted-runs, deleted_runs, edited, joined_text}
-use Rattle.documents.proofs.Common.{insert_at, insertion_offset, is_idle, keyed_text, TakesMarksBut, mark_at}
-use Rattle.documents.proofs.Common.{mark_carried, refused, replace_span, replaced, shown, spans_shown, tags_with, total}
-use Rattle.documents.proofs.Common.{view_end, view_start, watched, with_texts, within_limits, Document, Widget}
-use Rattle.documents.proofs.Common.{if◌then◌else◌, AreApart}
+use Rattle.documents.proofs.Common.{◌≡◌, ℕ, ◌+◌, ◌-◌, ◌≤◌, false, List, [], ◌∷◌, length, map, refl, sym, ap, ◌∙◌, arith}
+use Rattle.documents.proofs.Common.{subst, option_map, unwrap_or, All, Fault, IsPlaced, LimitTable, Place, Pair, Span}
+use Rattle.documents.proofs.Common.{TellsCells, TextChange, characters, deletion, insertion, Change, HasMarksBut}
+use Rattle.documents.proofs.Common.{MarkChange, MarkKey, carried_all, drawn, moved, delete_places, delete_spans}
+use Rattle.documents.proofs.Common.{deleted-runs, deleted_runs, edited, joined_text, insert_at, insertion_offset}
+use Rattle.documents.proofs.Common.{is_idle, keyed_text, TakesMarksBut, mark_at, mark_carried, refused, replace_span}
+use Rattle.documents.proofs.Common.{replaced, shown, spans_shown, tags_with, total, view_end, view_start, watched}
+use Rattle.documents.proofs.Common.{with_texts, Document, Widget, AreApart}
+use Rattle.documents.proofs.CarriedLaws.{within-either}
 use Rattle.documents.proofs.CarriedByLaws.{deletions-carried, drawn_all, insertion-carries, replacement-carries}
 use Rattle.documents.proofs.CarriedByLaws.{told-none}
 use Rattle.documents.proofs.CarriedMarksLaws.{option-same}
@@ -31,19 +31,6 @@ pub refused-taken : (marks : List MarkChange) (document : Document) (fault : Fau
     → TakesMarksBut marks document (refused document fault)
 refused-taken marks document fault = still-taken marks document (refused document fault) refl (λ key _. refl)
 
--- a command that may be refused for its limits
-taken-within : (marks : List MarkChange) (limits : LimitTable) (document : Document) (tags chars : ℕ) (change : Change)
-    → TakesMarksBut marks document change
-    → TakesMarksBut marks document (within_limits limits document tags chars change)
-taken-within marks limits document tags chars change takes =
-    let P : Change → Type 0 = TakesMarksBut marks document in
-    elim (nat_lt (limits.tags + 1) tags) as (λ b. P (if b then refused document TooManyTags
-    else (if nat_lt limits.chars chars then refused document TextTooLong else change))) [
-      | true ↦ refused-taken marks document TooManyTags
-      | false ↦ elim (nat_lt limits.chars chars) as (λ b. P (if b then refused document TextTooLong else change))
-          [ true ↦ refused-taken marks document TextTooLong | false ↦ takes ]
-    ]
-
 -- a mark goes as changes take it that take every place so
 taken-as : (goes : Place → Place) (changes : List TextChange) (document : Document) (key : MarkKey)
     → ((place : Place) → carried_all changes place ≡ goes place)
@@ -59,9 +46,9 @@ insert-taken limits document widget at pairs within =
     let text = joined_text pairs in
     let tagged : Document = record document { tags = tags_with document pairs } in
     let made : Document = with_texts kind.Insert at (map (keyed_text widget) pairs) tagged in
-    taken-within [] limits document (length (tags_with document pairs)) (length document.cells + total pairs)
-    (edited made (insertion at text ∷ []))
-    (λ told tells key _. inserted-marks document widget at pairs key
+    within-either (TakesMarksBut [] document) limits document (length (tags_with document pairs))
+    (length document.cells + total pairs) (edited made (insertion at text ∷ [])) (refused-taken [] document)
+    (λ _ told tells key _. inserted-marks document widget at pairs key
     ∙ taken-as (moved at (length text)) told.changes document key (λ place.
     insertion-carries at text place within tells))
 
@@ -81,11 +68,12 @@ pub replace-taken : (limits : LimitTable) (document : Document) (widget : Widget
 replace-taken limits document widget from to pairs ordered within =
     let text = joined_text pairs in
     let insert = insert_key widget.name in
-    taken-within (watched document insert ∷ []) limits document (length (tags_with document pairs))
+    let marks = watched document insert ∷ [] in
+    within-either (TakesMarksBut marks document) limits document (length (tags_with document pairs))
     (length document.cells - (to - from) + total pairs)
     (edited (replaced document widget from to pairs)
-    (deletion (characters document.cells) from to ∷ insertion from text ∷ []))
-    (λ told tells key others. replaced-marks document widget from to pairs key (one-other document insert key others)
+    (deletion (characters document.cells) from to ∷ insertion from text ∷ [])) (refused-taken marks document)
+    (λ _ told tells key others. replaced-marks document widget from to pairs key (one-other document insert key others)
     ∙ taken-as (λ (place : Place). moved from (length text) (drawn from to place)) told.changes document key
     (λ place. replacement-carries from to text place ordered within tells))
 

@@ -1,6 +1,6 @@
 -- What of a document one of its widgets shows.
-use Rattle.documents.proofs.Common.{Part, part_between, [], inl, inr, min, suc, zero, ◌≡◌, ℕ, ◌+◌, ◌-◌, ◌<◌, ◌≤◌, true}
-use Rattle.documents.proofs.Common.{false, List, length, map, refl, sym, ap, ap₂, subst, ◌∙◌, arith, drop, take}
+use Rattle.documents.proofs.Common.{or_parts, Part, part_between, [], inl, inr, min, suc, zero, ◌≡◌, ℕ, ◌+◌, ◌-◌, ◌<◌}
+use Rattle.documents.proofs.Common.{◌≤◌, false, List, length, map, refl, sym, ap, ap₂, subst, ◌∙◌, arith, drop, take}
 use Rattle.documents.proofs.Common.{true≢false, ◌≢◌, eq-eqb, slice_get, IfSome, slice_index_or, slice_range, unwrap_or}
 use Rattle.documents.proofs.Common.{cases_lt, drop_all, get_or_default, length-map, length-take-le, numbers_of, Cell}
 use Rattle.documents.proofs.Common.{Content, flags, IsLineStart, IsView, known_tags, Anchors, is-start, text-end-begins}
@@ -39,10 +39,6 @@ flag-at flags_of slot found is within read same = get_or_default flags_of slot f
 pub part-length : {A : Type 0} (xs : List A) (start end : ℕ) → end ≤ length xs →
     length (slice_range xs start end) ≡ end - start
 part-length xs start end within = length-take-le (end - start) (drop start xs) (omega (arith, length-drop start xs))
-
-pub neither : (a b : Bool) → (a || b) ≡ false → (a ≡ false) × (b ≡ false)
-neither true b none = absurd (true≢false none)
-neither false b none = (refl, none)
 
 -- a part that ends at a place, or before it begins
 pub part-past : {A : Type 0} (xs : List A) (from to past : ℕ) → past - from ≡ to - from →
@@ -141,7 +137,7 @@ module _ (parts : Parts) (document : Document) (place slot : ℕ) (stands : Stan
   pub active-is : is_idle document widget ≡ false → (get_or parts.journal.disabled slot false ≡ false)
       × (start_in parts slot < end_in parts slot)
   active-is active =
-      let both = neither (get_or parts.journal.disabled slot false) (start_in parts slot == end_in parts slot)
+      let both = or_parts (get_or parts.journal.disabled slot false) (start_in parts slot == end_in parts slot)
       (sym idle-is ∙ active) in (
         both.0,
         (let apart : start_in parts slot ≢ end_in parts slot = λ same.

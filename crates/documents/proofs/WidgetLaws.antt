@@ -1,17 +1,17 @@
 -- The options of a document and of its widgets, and widgets that come and go.
-use Rattle.documents.proofs.Common.{◌≡◌, ◌≢◌, ℕ, zero, suc, ◌+◌, ◌-◌, ◌≤◌, true, false, cond, set, List, [], ◌∷◌, Ok}
-use Rattle.documents.proofs.Common.{length, take, get_or, refl, sym, ap, ap₂, subst, ◌∙◌, arith, slice_get, unwrap_or}
-use Rattle.documents.proofs.Common.{IfSome, if◌then◌else◌, AllByRecursion, get_or_default, length-set, get_or-set_other}
-use Rattle.documents.proofs.Common.{get_or-set_at, All-set, nat_tests, IsLineStart, is_newline, line_of, line_start}
-use Rattle.documents.proofs.Common.{lines, LimitTable, FitsText, limit_of, Kept, log_of, Named, AreAnchored, Anchors}
-use Rattle.documents.proofs.Common.{is_same, Empty, history_under, is_behind, Settings, Document, Journal, Parts}
-use Rattle.documents.proofs.Common.{Widget, anchors_at, characters, document_of, whole, widget_at, widget_of, IsSeated}
-use Rattle.documents.proofs.Common.{Stands, answered, AreLines, IsLine, anchor_at, settings_of, widget_set}
-use Rattle.documents.proofs.Common.{with_settings, window_names, filter, not, option_map, Option, None, Some}
-use Rattle.documents.proofs.Common.{characters-keyed}
+use Rattle.documents.proofs.Common.{◌≡◌, ◌≢◌, ℕ, ◌+◌, ◌-◌, ◌≤◌, false, set, List, [], ◌∷◌, Ok, length, get_or, refl}
+use Rattle.documents.proofs.Common.{sym, ap, ap₂, subst, ◌∙◌, arith, slice_get, unwrap_or, IfSome, AllByRecursion}
+use Rattle.documents.proofs.Common.{get_or_default, length-set, get_or-set_other, get_or-set_at, All-set, nat_tests}
+use Rattle.documents.proofs.Common.{IsLineStart, line_of, line_start, lines, LimitTable, FitsText, limit_of, Kept}
+use Rattle.documents.proofs.Common.{log_of, Named, AreAnchored, Anchors, is_same, Empty, history_under, is_behind}
+use Rattle.documents.proofs.Common.{Settings, Document, Journal, Parts, Widget, anchors_at, characters, document_of}
+use Rattle.documents.proofs.Common.{whole, widget_at, widget_of, IsSeated, Stands, answered, AreLines, IsLine}
+use Rattle.documents.proofs.Common.{anchor_at, settings_of, widget_set, with_settings, window_names, filter, not}
+use Rattle.documents.proofs.Common.{option_map, Option, None, Some, characters-keyed}
 use Rattle.name_list.specs.Names.{names_of}
-use Rattle.text_index.proofs.ViewLaws.{line_of-within}
-use Rattle.text_model.proofs.LineLaws.{line_start-le, lines-cons, lines-le-length}
+use Rattle.text_index.proofs.SameLine.{line-of-start}
+use Rattle.text_index.proofs.ViewLaws.{line_of-within, line_start-add}
+use Rattle.text_model.proofs.LineLaws.{line_start-le, lines-le-length}
 use Rattle.documents.proofs.ChangeLaws.{Leaves, does-changed}
 use Rattle.documents.proofs.JournalLaws.{fits-under, orderly-under, with_kept}
 use Rattle.documents.proofs.MarkLaws.{slot-there, widgets-put}
@@ -38,50 +38,16 @@ anchor-line text (Some anchor) = (omega arith, (let within = line_of-within text
 abbrev pub line_anchor : List ℕ → Option ℕ → Option ℕ
 line_anchor text line = option_map (λ l. line_start (l - 1) text) line
 
-after-one : (c : ℕ) (text : List ℕ) (offset : ℕ) → line_of (c ∷ text) (1 + offset)
-    ≡ cond (is_newline c) 1 0 + line_of text offset
-after-one c text offset =
-    ap (line_of (c ∷ text)) (let h : 1 + offset ≡ suc offset = omega arith in h) ∙ lines-cons c (take offset text)
-
--- the line that starts where a line starts is that line
-line_of-start : (text : List ℕ) (line : ℕ) → line ≤ lines text → line_of text (line_start line text) ≡ line
-line_of-start text zero within = refl
-line_of-start [] (suc line) within = absurd (omega (arith, within))
-line_of-start (c ∷ text) (suc line) within =
-    elim (is_newline c) as (λ b. is_newline c ≡ b →
-    line_of (c ∷ text) (1 + line_start (if b then line else suc line) text) ≡ suc line) [
-      | true ↦ λ newline.
-          let counted = lines-cons c text ∙ ap (λ b. cond b 1 0 + lines text) newline in
-          let rest = line_of-start text line (omega (arith, within, counted)) in
-          let first : line_of (c ∷ text) (1 + line_start line text)
-          ≡ 1 + line_of text (line_start line text) = after-one c text (line_start line text)
-          ∙ ap (λ b. cond b 1 0 + line_of text (line_start line text)) newline in
-          omega (arith, first, rest)
-      | false ↦ λ other.
-          let counted = lines-cons c text ∙ ap (λ b. cond b 1 0 + lines text) other in
-          let rest = line_of-start text (suc line) (omega (arith, within, counted)) in
-          let first : line_of (c ∷ text) (1 + line_start (suc line) text)
-          ≡ 0 + line_of text (line_start (suc line) text) = after-one c text (line_start (suc line) text)
-          ∙ ap (λ b. cond b 1 0 + line_of text (line_start (suc line) text)) other in
-          omega (arith, first, rest)
-    ] refl
-
 pub starts-line : (text : List ℕ) (line : ℕ) → line ≤ lines text → IsLineStart text (line_start line text)
 starts-line text line within = record {
   within = line_start-le text line;
-  begins = ap (λ n. line_start n text) (line_of-start text line within);
+  begins = ap (λ n. line_start n text) (line-of-start text line within);
 }
 
 later-starts : (text : List ℕ) (line more : ℕ) → line ≤ more → line_start line text ≤ line_start more text
-later-starts text zero more ordered = omega arith
-later-starts text (suc line) zero ordered = absurd (omega (arith, ordered))
-later-starts [] (suc line) (suc more) ordered = omega arith
-later-starts (c ∷ text) (suc line) (suc more) ordered =
-    elim (is_newline c) as (λ b. 1 + line_start (if b then line else suc line) text
-    ≤ 1 + line_start (if b then more else suc more) text) [
-      | true ↦ (let h = later-starts text line more (omega (arith, ordered)) in omega (arith, h))
-      | false ↦ (let h = later-starts text (suc line) (suc more) (omega (arith, ordered)) in omega (arith, h))
-    ]
+later-starts text line more ordered =
+    let is : line + (more - line) ≡ more = omega (arith, ordered) in
+    omega (arith, line_start-add line (more - line) text, ap (λ k. line_start k text) is)
 
 -- anchors at lines of a text, of which the start isn't behind the end, stand as anchors should
 pub lines-anchored : (text : List ℕ) (settings : Settings) → AreLines (lines text) settings →

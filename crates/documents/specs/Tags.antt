@@ -1,10 +1,14 @@
 -- Commands on tags.
 use Rattle.std.specs.Prelude.{ℕ, ◌+◌, nat_lt, Bool, true, false, List, [], length, map, filter, Option, None}
-use Rattle.std.specs.Prelude.{Some, if◌then◌else◌}
+use Rattle.std.specs.Prelude.{Some, Result, Ok, Err, if◌then◌else◌}
 pub use Rattle.tag_table.specs.Priority.{Order, lowered, raised}
 use Rattle.text_model.specs.Changes.{flag_at}
 use Rattle.text_model.specs.LimitTable.{LimitTable}
+use Rattle.tag_table.specs.declared.faults.NoSuchTag as table_fault
+use Rattle.tag_table.specs.declared.faults.NoSuchTag.TheVariants.{Moved, Neighbour}
+use Rattle.command_effects.specs.declared.answers.Answer.{Answer}
 use Rattle.command_effects.specs.declared.answers.Answer.TheVariants.{Empty}
+use Rattle.command_effects.specs.declared.answers.Fault.{Fault}
 use Rattle.command_effects.specs.declared.answers.Fault.TheVariants.{NoSuchTag, TooManyTags}
 use Rattle.reports.specs.Cells.{with_tag, without_tags}
 use Rattle.command_effects.specs.Lists.{with_name}
@@ -60,6 +64,16 @@ flags_of document widget name =
 abbrev pub known_or : Document → ℕ → List ℕ → Change → Change
 known_or document position name change =
     if is_among name document.tags then change else refused document (NoSuchTag position)
+
+-- where the word of the one that isn't known is
+abbrev pub unknown_at : ℕ → table_fault.NoSuchTag → ℕ
+unknown_at position Moved = position
+unknown_at position Neighbour = position + 1
+
+-- the answer once a tag is moved next to another one, if both are known
+abbrev pub moved_answer : {A : Type 0} → ℕ → Result A table_fault.NoSuchTag → Result Answer Fault
+moved_answer position (Ok done) = Ok Empty
+moved_answer position (Err unknown) = Err (NoSuchTag (unknown_at position unknown))
 
 abbrev pub reordered : Document → ℕ → Order → List ℕ × Option (List ℕ) → Change
 reordered document position order (name, None) =

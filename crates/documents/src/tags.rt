@@ -1,7 +1,7 @@
 //! The tags of a document: listed, added to ranges, removed from them, deleted, raised and lowered.
 
 ghost use Rattle.std.specs.Prelude.{◌≡◌, Some, ◌+◌, ◌-◌, ◌<◌, ◌≤◌, length, chars, option_map, nat_lt, nat_le, Ok, Err};
-ghost use Rattle.std.specs.Prelude.{IfOk};
+ghost use Rattle.std.specs.Prelude.{IfOk, IfSome, None, []};
 ghost use Rattle.std.specs.List.{All};
 ghost use Rattle.text_model.specs.LimitTable.{LimitTable};
 ghost use Rattle.documents.specs.Documents.{widget_at};
@@ -11,9 +11,12 @@ ghost use Rattle.documents.specs.Told.{reply_of, IsTold};
 ghost use Rattle.edit_ops.specs.Tagging.{tagged};
 ghost use Rattle.tcl_words.specs.ListText.{list_text};
 ghost use Rattle.tcl_words.specs.Unread.{texts_of};
+ghost use Rattle.text_index.specs.Parts.{part_of};
 ghost use Rattle.text_index.specs.Ranges.{tag_ranges, next_range, previous_range};
+ghost use Rattle.text_index.specs.Views.{shown as shown_in, shown_flags};
+ghost use Rattle.text_model.specs.TagBits.{slot_count};
 ghost use Rattle.tag_table.specs.Priority.{lowered, raised};
-ghost use Rattle.documents.specs.Tags.{flags_of, tags_on, add_spans, remove_spans, tag_delete, reordered};
+ghost use Rattle.documents.specs.Tags.{flags_of, tags_on, add_spans, remove_spans, tag_delete, reordered, moved_answer};
 ghost use Rattle.documents.specs.Listing.{range_words, begun};
 ghost use Rattle.command_effects.specs.declared.answers.Answer.TheVariants.{Empty};
 
@@ -27,7 +30,21 @@ use command_effects::{
 use reports::EditTold;
 use std::alloc::AllocError;
 use tag_table::NoSuchTag;
+use text_index::View;
 use text_model::{TagSlot, Text, TextStore};
+
+/// The answer once a tag is moved next to another one, or one of them isn't known: the tag is the word at a position,
+/// and the other one that after it.
+fn moved_answer(moved: Result<(), NoSuchTag>, position: usize) -> Result<Answer, Fault>
+    requires { position + 1 ≤ usize.MAX }
+    ensures { result ≡ moved_answer position moved }
+{
+    match moved {
+        Ok(()) => Ok(Answer::Empty),
+        Err(NoSuchTag::Moved) => Err(Fault::NoSuchTag(position)),
+        Err(NoSuchTag::Neighbour) => Err(Fault::NoSuchTag(position + 1)),
+    }
+}
 
 impl<S: TextStore> Document<S> {
     /// The names of all tags as a list, from the lowest.
@@ -61,6 +78,22 @@ impl<S: TextStore> Document<S> {
         Ok(Text::new(list))
     }
 
+    /// The view of a widget, with the slot of a tag in it, if there is one of that name.
+    fn tag_view(&self, seat: usize, name: &str) -> Option<(View<'_, S>, TagSlot)>
+        requires { seat < length self.now.widgets }
+        ensures none { result ≡ None → flags_of self.now (widget_at self.now seat) (chars name.now) ≡ [] }
+        ensures text { IfSome result (λ found. shown_in (part_of found.0) ≡ shown self.now (widget_at self.now seat)) }
+        ensures flags { IfSome result (λ found.
+            shown_flags found.1.0 (part_of found.0) ≡ flags_of self.now (widget_at self.now seat) (chars name.now)) }
+        ensures slot { IfSome result (λ found. found.1.0 < slot_count) }
+        ensures end { IfSome result (λ found.
+            found.0.start + length (shown self.now (widget_at self.now seat)) ≡ found.0.end) }
+    {
+        let number = self.seats.number(seat);
+        let slot = find_tag(&self.tags, TagSlot(number), name)?;
+        Some((view_of(&self.text.store, &self.text.anchors, number), slot))
+    }
+
     /// Where the ranges of a tag begin and end, as a list; none of an unknown tag.
     pub fn ranges_of(&self, seat: usize, name: &str) -> Result<Text, AllocError>
         requires shown { seat < length self.now.widgets }
@@ -68,11 +101,9 @@ impl<S: TextStore> Document<S> {
             (tag_ranges (flags_of self.now (widget_at self.now seat) (chars name.now))))) }
     {
         let mut list = String::new(self.alloc);
-        let number = self.seats.number(seat);
-        let Some(slot) = find_tag(&self.tags, TagSlot(number), name) else {
+        let Some((view, slot)) = self.tag_view(seat, name) else {
             return Ok(Text::new(list));
         };
-        let view = view_of(&self.text.store, &self.text.anchors, number);
         push_ranges(&mut list, &view, slot)?;
         Ok(Text::new(list))
     }
@@ -93,11 +124,9 @@ impl<S: TextStore> Document<S> {
             (next_range (flags_of self.now (widget_at self.now seat) (chars name.now)) from)))) }
     {
         let mut list = String::new(self.alloc);
-        let number = self.seats.number(seat);
-        let Some(slot) = find_tag(&self.tags, TagSlot(number), name) else {
+        let Some((view, slot)) = self.tag_view(seat, name) else {
             return Ok(Text::new(list));
         };
-        let view = view_of(&self.text.store, &self.text.anchors, number);
         push_next(&mut list, &view, slot, from, to)?;
         Ok(Text::new(list))
     }
@@ -118,11 +147,9 @@ impl<S: TextStore> Document<S> {
             (previous_range (flags_of self.now (widget_at self.now seat) (chars name.now)) from)))) }
     {
         let mut list = String::new(self.alloc);
-        let number = self.seats.number(seat);
-        let Some(slot) = find_tag(&self.tags, TagSlot(number), name) else {
+        let Some((view, slot)) = self.tag_view(seat, name) else {
             return Ok(Text::new(list));
         };
-        let view = view_of(&self.text.store, &self.text.anchors, number);
         push_previous(&mut list, &view, slot, from, to)?;
         Ok(Text::new(list))
     }
@@ -219,11 +246,7 @@ impl<S: TextStore> Document<S> {
         ensures { (limits : LimitTable) → Does limits self.old self.new result
             (reordered self.old position raised (chars name.now, option_map (λ word. chars word.now) above.entry)) }
     {
-        match self.tags.raise(name, above) {
-            Ok(()) => Ok(Answer::Empty),
-            Err(NoSuchTag::Moved) => Err(Fault::NoSuchTag(position)),
-            Err(NoSuchTag::Neighbour) => Err(Fault::NoSuchTag(position + 1)),
-        }
+        moved_answer(self.tags.raise(name, above), position)
     }
 
     /// Puts a tag lowest, or just below another one. The tag is the word at a position, the other one that after it.
@@ -237,10 +260,6 @@ impl<S: TextStore> Document<S> {
         ensures { (limits : LimitTable) → Does limits self.old self.new result
             (reordered self.old position lowered (chars name.now, option_map (λ word. chars word.now) below.entry)) }
     {
-        match self.tags.lower(name, below) {
-            Ok(()) => Ok(Answer::Empty),
-            Err(NoSuchTag::Moved) => Err(Fault::NoSuchTag(position)),
-            Err(NoSuchTag::Neighbour) => Err(Fault::NoSuchTag(position + 1)),
-        }
+        moved_answer(self.tags.lower(name, below), position)
     }
 }

@@ -269,8 +269,8 @@ module _ (limits : LimitTable) (document : Document) (widget : Widget) (P : Docu
   edits-done Insert windows switches position arguments is = inserts position arguments
   edits-done Delete windows switches position arguments is = deletes position arguments
   edits-done Replace windows switches position arguments is = replaces position arguments
-  edits-done EditUndo windows switches position arguments is = edited.undone
-  edits-done EditRedo windows switches position arguments is = edited.redone
+  edits-done EditUndo windows switches position arguments is = edited.grouped true
+  edits-done EditRedo windows switches position arguments is = edited.grouped false
   edits-done command windows switches position arguments is = absurd is
 
 -- ---- any command but three

@@ -18,12 +18,12 @@ use Rattle.peers.proofs.Common.{create_with, destroy_shaped, on_found, on_home, 
 use Rattle.peers.proofs.Common.{all_windows, first_settings, bare_document, subcommand, refuses, new_document, eqb-true}
 use Rattle.peers.proofs.Common.{configure, delete, gravity_asked, gravity_given, mark_set, replace, tag_add, tag_remove}
 use Rattle.peers.proofs.Common.{slice_index_or, zero, is_idle, tags_with, within_limits, known_or, set_found}
-use Rattle.peers.proofs.Common.{redo_found, undo_found, next_redo, next_undo, total, with_name, NoSuchTag, TextTooLong}
-use Rattle.peers.proofs.Common.{TooManyMarks, TooManyTags, modified_word, NamesWindow, Gravity, Place, gravity_of}
-use Rattle.peers.proofs.Common.{bad_or, shape_in, text_entry, destroy_entry, characters, redone, undone, joined_text}
-use Rattle.peers.proofs.Common.{insert}
+use Rattle.peers.proofs.Common.{next_redo, next_undo, total, with_name, NoSuchTag, TextTooLong, TooManyMarks}
+use Rattle.peers.proofs.Common.{TooManyTags, modified_word, NamesWindow, Gravity, Place, gravity_of, bad_or, shape_in}
+use Rattle.peers.proofs.Common.{text_entry, destroy_entry, characters, joined_text, insert}
 use Rattle.edit_ops.specs.Replays.{replays}
 use Rattle.edit_ops.specs.Told.{deletion, insertion}
+use Rattle.documents.specs.History.{group_found, with_group}
 use Rattle.documents.specs.Promise.{edited}
 use Rattle.command_table.specs.declared.shapes.ShapeFault.TheVariants.{WrongArguments}
 use Rattle.undo_stack.specs.declared.actions.Action.{Action}
@@ -187,13 +187,11 @@ module _ (words : List (List ℕ)) (document : Document) where
       given (settings_given document position arguments (settings_of document widget))
       (λ settings. answered (with_settings widget settings document) Empty) (λ settings. said _)
 
-  undoes : (widget : Widget) (found : Option (List Action)) → IsSettled (undo_found document widget found)
-  undoes widget None = inl refl
-  undoes widget (Some group) = busy widget (edited (undone widget group document) (replays true group)) (said _)
-
-  redoes : (widget : Widget) (found : Option (List Action)) → IsSettled (redo_found document widget found)
-  redoes widget None = inl refl
-  redoes widget (Some group) = busy widget (edited (redone widget group document) (replays false group)) (said _)
+  groups : (back : Bool) (widget : Widget) (found : Option (List Action)) →
+      IsSettled (group_found back document widget found)
+  groups back widget None = inl refl
+  groups back widget (Some group) =
+      busy widget (edited (with_group back widget group document) (replays back group)) (said _)
 
   modifies-word : (position : ℕ) (word : Option (List ℕ)) → IsSettled (modified_word document position word)
   modifies-word position None = inl refl
@@ -246,11 +244,11 @@ module _ (words : List (List ℕ)) (document : Document) where
       given (one_or_two_of call.arguments) (reordered document call.position lowered) (orders call.position lowered)
   does Configure call there = configures call.widget call.position call.arguments
   does EditUndo call there =
-      either document.undo (undo_found document call.widget (next_undo document.history)) (answered document Empty)
-      (undoes call.widget (next_undo document.history)) (inl refl)
+      either document.undo (group_found true document call.widget (next_undo document.history)) (answered document Empty)
+      (groups true call.widget (next_undo document.history)) (inl refl)
   does EditRedo call there =
-      either document.undo (redo_found document call.widget (next_redo document.history)) (answered document Empty)
-      (redoes call.widget (next_redo document.history)) (inl refl)
+      either document.undo (group_found false document call.widget (next_redo document.history)) (answered document Empty)
+      (groups false call.widget (next_redo document.history)) (inl refl)
   does EditModified call there =
       given (none_or_one_of call.arguments) (modified_word document call.position) (modifies-word call.position)
   does EditReset call there = said _

@@ -1,5 +1,6 @@
 use Rattle.documents.proofs.Common.{sym, ◌∙◌, chars, widget_at, shared_key, mark_key}
-use Rattle.documents.proofs.ListedMarksLaws.{key-current, key-insert, key-shared, listed-one, seat-name}
+use Rattle.documents.proofs.ListedMarksLaws.{key-current, key-insert, key-shared, listed-one}
+use Rattle.documents.proofs.WidgetLaws.{own-name}
 use Rattle.documents.proofs.MarkReportLaws.{current_key, insert_key}
 use Rattle.documents.proofs.PartsLaws.{stand}
 use Rattle.documents.proofs.documents.Document.list_mark.Goals.{then-is_word+in_ok-push_mark}
@@ -19,14 +20,14 @@ returns g c =
           w.marks-is
           ∙ listed-one document c.new-marks.result w.push_mark.new.marks (insert_key name) (mark_key widget word)
           c.new-marks.ensures w.in_ok-push_mark.ensures
-          (key-insert widget name word (seat-name c.args.seat name stands w.name.ensures)
+          (key-insert widget name word (own-name c.args.seat name stands w.name.ensures)
           (sym c.is_word.ensures ∙ w.if-is_word.true))
       | else-is_word+then-is_word-2+in_ok-push_mark-2 w ↦
           let name = chars w.name-then-is_word-2.result.now in
           w.marks-is
           ∙ listed-one document c.new-marks.result w.push_mark-then-is_word-2.new.marks (current_key name)
           (mark_key widget word) c.new-marks.ensures w.in_ok-push_mark-2.ensures
-          (key-current widget name word (seat-name c.args.seat name stands w.name-then-is_word-2.ensures)
+          (key-current widget name word (own-name c.args.seat name stands w.name-then-is_word-2.ensures)
           (sym c.is_word.ensures ∙ w.if-is_word.false)
           (sym w.is_word-else-is_word.ensures ∙ w.if-is_word-2.true))
       | else-is_word+else-is_word-2+in_ok-push_mark-3 w ↦

@@ -1,20 +1,20 @@
-use Rattle.documents.proofs.Common.{known-stand, ◌*◌, Ok, Empty, ap, sym, subst, ◌∙◌, next_redo, false, log_of}
-use Rattle.documents.proofs.Common.{state_of, widget_at, parts_of, edit_redo, Content, Document, planned-made}
+use Rattle.documents.proofs.Common.{known-stand, ◌*◌, Ok, Empty, ap, sym, subst, ◌∙◌, log_of, state_of, next_group}
+use Rattle.documents.proofs.Common.{edit_group, widget_at, parts_of, Change, Content, Document, planned-made}
 use Rattle.documents.proofs.Common.{told-planned, FitsText, LimitTable, is_some, refl}
-use Rattle.edit_ops.specs.Reversals.{redone}
 use Rattle.documents.proofs.ChangeLaws.{Leaves}
 use Rattle.documents.proofs.PartsLaws.{pairs_of, stand}
-use Rattle.documents.proofs.ReversalLaws.{CanRevert, IsReversal, can-revert, leaves-redone, reversal, redone-edits}
+use Rattle.documents.proofs.ReversalLaws.{CanRevert, IsReversal, can-revert, group-edits, leaves-group, moved_back}
+use Rattle.documents.proofs.ReversalLaws.{reversal}
 use Rattle.documents.proofs.ToldLaws.{left-refused}
 use Rattle.documents.proofs.StateLaws.{stands-kept, stands-unedited, state_in, with_state}
 use Rattle.documents.proofs.WellFormedLaws.{fits-kept}
-use Rattle.documents.proofs.documents.Document.edit_redo.Given.{Over}
-use Rattle.documents.proofs.documents.Document.edit_redo.Goals.{In-Some, In_ok-carry_out}
+use Rattle.documents.proofs.documents.Document.edit_group.Given.{Over}
+use Rattle.documents.proofs.documents.Document.edit_group.Goals.{In-Some, In_ok-carry_out}
 use Rattle.text_model.specs.Content as text
-use Rattle.documents.proofs.documents.Document.edit_redo.Goals as goal
+use Rattle.documents.proofs.documents.Document.edit_group.Goals as goal
 
-pub plan_redo-requires-clause-fits : goal.plan_redo-requires-clause-fits
-plan_redo-requires-clause-fits g c =
+pub plan_group-requires-clause-fits : goal.plan_group-requires-clause-fits
+plan_group-requires-clause-fits g c =
     subst (λ (limits : LimitTable). FitsText limits.chars
     (text.characters (g.S.TextStore.content c.self.inside.text.store).cells) c.self.inside.text.history.history)
     (sym c.rules-rules.ensures.limits)
@@ -23,15 +23,15 @@ plan_redo-requires-clause-fits g c =
 
 -- the group, and what the plan makes of it
 reverted : (g : Over) (c : In-Some g)
-    → IsReversal c.args.caller.now.limits.now c.rules-rules.result.follows false
-    (next_redo c.self.inside.text.history.history) (redone (2 * c.number.result))
+    → IsReversal c.args.caller.now.limits.now c.rules-rules.result.follows c.args.back
+    (next_group c.args.back c.self.inside.text.history.history) (moved_back c.args.back (2 * c.number.result))
     (state_in (parts_of g.S.TextStore.content c.self.inside))
-    (g.S.TextStore.outcome c.plan_redo.new.text.store c.in-Some.plan.prepared) c.in-Some.plan.effects c.in-Some.plan.delta
+    (g.S.TextStore.outcome c.plan_group.new.text.store c.in-Some.plan.prepared) c.in-Some.plan.effects c.in-Some.plan.delta
 reverted g c =
     let plan = c.in_ok-plan.ensures in
-    reversal _ (λ plan. plan.effects) _ (next_redo c.self.inside.text.history.history) c.in_ok-plan.field-0
-    c.plan_redo.ensures.none c.in_ok-plan.was c.in-Some.is c.rules-rules.ensures.limits plan.bounds plan.scalars
-    plan.outcome plan.delta
+    reversal _ (λ plan. plan.effects) _ (next_group c.args.back c.self.inside.text.history.history)
+    c.in_ok-plan.field-0 c.plan_group.ensures.none c.in_ok-plan.was c.in-Some.is c.rules-rules.ensures.limits
+    plan.bounds plan.scalars plan.outcome plan.delta
 
 pub carry_out-requires-clause-stand : goal.carry_out-requires-clause-stand
 carry_out-requires-clause-stand g c =
@@ -44,19 +44,20 @@ can : (g : Over) (c : In-Some g)
 can g c =
     can-revert c.args.caller.now.seat (stand c.self.invariant c.self.view_is) c.number.ensures.value
     c.reverts_nothing.ensures c.if-reverts_nothing.false
-    (c.is_some-found.ensures ∙ ap is_some (c.last_redo.ensures ∙ (reverted g c).is))
+    (ap (λ (d : Document). is_some (next_group c.args.back d.history)) (sym c.self.view_is)
+    ∙ ap is_some (reverted g c).is)
 
--- what is left where the group is redone
+-- what is left where the group is undone or redone
 left : (g : Over) (c : In_ok-carry_out g)
     → Leaves c.args.caller.now.limits.now (with_state (parts_of g.S.TextStore.content c.self.inside) (state_of
     (g.S.TextStore.content c.carry_out.new.text.store) c.carry_out.new.text.anchors.items
     (log_of c.carry_out.new.text.history))) c.args.self.now (Ok Empty)
-    (edit_redo c.args.self.now (widget_at c.args.self.now c.args.caller.now.seat))
+    (edit_group c.args.back c.args.self.now (widget_at c.args.self.now c.args.caller.now.seat))
 left g c =
     let same = c.in_ok-plan.ensures.same in
     let at = (goal.at.invariant_of-self-2 g c).In-Some in
     let group = reverted g at in
-    leaves-redone (can g at) group.is group.sound c.requires.formed
+    leaves-group c.args.back (can g at) group.is group.sound c.requires.formed
     (planned-made c.in-Some.plan.effects c.in_ok-carry_out.ensures.made same.2 same.1 group.makes)
 
 pub invariant_of-self-2 : goal.invariant_of-self-2
@@ -71,24 +72,25 @@ returns-clause-told g c = λ follows.
     let group = reverted g at in
     told-planned (pairs_of (parts_of g.S.TextStore.content c.self.inside)) c.in-Some.plan.delta _ _
     c.in_ok-carry_out.ensures.told (ap (λ (content : Content). content.cells) c.in_ok-plan.ensures.same.0)
-    (c.rules-rules.ensures.follows ∙ follows) (redone-edits (can g at) group.is) group.knows
+    (c.rules-rules.ensures.follows ∙ follows)
+    (sym (ap (λ (change : Change). change.edits) (group-edits c.args.back (can g at) group.is))) group.knows
     (ap (λ (d : Document). d.cells) c.self.view_is)
 
 -- nothing is left where memory is wanted, or where there is no group
 pub invariant_of-self : goal.invariant_of-self
 invariant_of-self g c =
-    let same = c.plan_redo.ensures.same in
+    let same = c.plan_group.ensures.same in
     (stands-unedited (stand c.self.invariant c.self.view_is) same.0 same.1 same.2).sound
 
 pub returns-in_err-plan : goal.returns-in_err-plan
 returns-in_err-plan g c =
-    let same = c.plan_redo.ensures.same in
+    let same = c.plan_group.ensures.same in
     left-refused c.from_residual.result c.from_residual.ensures refl
     (stands-unedited (stand c.self.invariant c.self.view_is) same.0 same.1 same.2)
 
 pub invariant_of-self-in_default : goal.invariant_of-self-in_default
 invariant_of-self-in_default g c =
-    let same = c.plan_redo.ensures.same in
+    let same = c.plan_group.ensures.same in
     (stands-unedited (stand c.self.invariant c.self.view_is) same.0 same.1 same.2).sound
 
 pub invariant_of-self-in_err-carry_out : goal.invariant_of-self-in_err-carry_out
