@@ -16,7 +16,7 @@ pub use answers::{Answer, Fault};
 pub use command_table::is_word;
 pub use edits::{clear_slots, prepare_drop, put_mark, put_widget_marks, set_slot, take_marks};
 pub use lists::{Pair, pairs_at};
-pub use marking::{gravity_word, make_mark, numbers_named, read_gravity, turn_mark, unset_names};
+pub use marking::{gravity_word, make_mark, numbers_named, read_gravity, unset_names};
 pub use ranges::{span_between, spans_of};
 pub use settings::{DocumentSettings, Settings, boolean_at};
 pub use tagged_edits::{plan_pairs, plan_replacement, tag_spans};

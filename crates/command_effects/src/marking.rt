@@ -1,8 +1,7 @@
-//! The words for a gravity, and changes of marks by name: set, moved, given a gravity or unset.
+//! The words for a gravity, and changes of marks by name: made or unset.
 
-ghost use Rattle.std.specs.Prelude.{◌≡◌, ◌≢◌, ◌≤◌, ◌<◌, None, Some, length, map, chars, IfOk, IfErr, OnOk, OnErr};
-ghost use Rattle.std.specs.FinMap as finite;
-ghost use Rattle.mark_table.specs.SharedMarks.{number_of, turned, AreMarks, IsFull};
+ghost use Rattle.std.specs.Prelude.{◌≡◌, ◌≢◌, ◌≤◌, ◌<◌, None, length, map, chars, IfOk, IfErr, OnOk, OnErr};
+ghost use Rattle.mark_table.specs.SharedMarks.{number_of, AreMarks, IsFull};
 ghost use Rattle.tcl_words.specs.Unread.{texts_of};
 ghost use Rattle.command_effects.specs.declared.answers.Fault.TheVariants.{Memory, TooManyMarks};
 ghost use Rattle.command_effects.specs.Marking.{gravity_of, gravity_word, IsMadeMark, marks_left, numbers_named};
@@ -35,29 +34,6 @@ pub fn gravity_word(gravity: Gravity) -> &'static str
         Gravity::Left => "left",
         Gravity::Right => "right",
     }
-}
-
-/// Puts a mark of the table, which has a number, at a place. Where memory is refused nothing changes.
-pub fn turn_mark<S: TextStore>(
-    alloc: Global,
-    marks: &mut MarkTable,
-    store: &mut S,
-    name: &str,
-    number: MarkNo,
-    place: Place,
-) -> Result<(), AllocError>
-    requires known { number_of (chars name.now) marks.old.marks ≡ Some number.0 }
-    requires within { place.offset ≤ length (S.content store.old).cells }
-    ensures table { OnOk result (marks.new
-        ≡ record marks.old { marks = turned (chars name.now) place.gravity marks.old.marks }) }
-    ensures ok { OnOk result (S.content store.new
-        ≡ record (S.content store.old) { marks = finite.insert (S.content store.old).marks number.0 place }) }
-    ensures sound { OnOk result (AreMarks marks.new) }
-    ensures err { OnErr result ((S.content store.new ≡ S.content store.old) × (marks.new ≡ marks.old)) }
-{
-    put_mark(alloc, store, number, place)?;
-    let _ = marks.set_gravity(name, place.gravity);
-    Ok(())
 }
 
 /// Makes a mark of a new name with right gravity, and puts it at an offset. Where that is refused nothing changes.

@@ -52,9 +52,8 @@ pub use Rattle.documents.specs.Names.{key_of, mark_number, mark_place, meanings,
 pub use Rattle.documents.specs.Options.{AreLines, IsLine, anchor_at, settings_of, widget_set, with_settings}
 pub use Rattle.documents.specs.Promise.{Change, Does, Gives, answered, change_with, edited, refused, unless_idle}
 pub use Rattle.documents.specs.Ranges.{spans_shown}
-pub use Rattle.documents.specs.Seats.{IsLonger}
-pub use Rattle.documents.specs.Tags.{add_spans, known_or, moved_answer, remove_spans, reordered, tag_delete, tags_on}
-pub use Rattle.documents.specs.Tags.{unknown_at}
+pub use Rattle.documents.specs.Seats.{IsLonger, IsSeatPut}
+pub use Rattle.documents.specs.Tags.{add_spans, known_or, moved_answer, remove_spans, reordered, tag_delete, tags_on, unknown_at}
 pub use Rattle.documents.specs.Texts.{insert_at, insertion_at, insertion_offset, joined_text, keyed_text, tags_with}
 pub use Rattle.documents.specs.Texts.{within_limits}
 pub use Rattle.documents.specs.Told.{Foretells, IsTold, reply_of}
@@ -93,11 +92,12 @@ pub use Rattle.edit_ops.specs.declared.texts.EditedText.{EditedText}
 pub use Rattle.index_grammar.specs.Names.{known_marks, known_tags}
 pub use Rattle.mark_table.proofs.ShiftLaws.{AreBelow, next-shifted, previous-shifted, shifted}
 pub use Rattle.mark_table.specs.Order.{origin_in, rank_of, usable}
-pub use Rattle.mark_table.specs.SharedMarks.{AreMarks, Mark, SharedMarks, first_number, is_named, number_of, turned}
+pub use Rattle.mark_table.specs.SharedMarks.{AreMarks, Mark, SharedMarks, first_number, gravity_of, is_named, number_of}
+pub use Rattle.mark_table.specs.SharedMarks.{turned}
 pub use Rattle.mark_table.specs.declared.order.Shown.{Shown}
 pub use Rattle.mark_table.specs.declared.order.WidgetMark.{WidgetMark}
 pub use Rattle.name_list.proofs.ListLaws.{Contains-from_stands}
-pub use Rattle.name_list.specs.Names.{AreNames, IsLeastFree, Named, Names, numbers_of}
+pub use Rattle.name_list.specs.Names.{AreNames, Named, Names, numbers_of}
 pub use Rattle.reports.proofs.BridgeLaws.{is_key_of, keys_of-belongs, keys_of-empty, keys_of-has, keys_of-set_slot}
 pub use Rattle.reports.proofs.ClearedLaws.{AreSeats-left, gone-apart, gone-low, keyed-deleted, keyed-unseated}
 pub use Rattle.reports.proofs.ClearedLaws.{known-deleted, known-unseated, map-filter, names_left}
@@ -148,8 +148,8 @@ pub use Rattle.std.specs.Char.{IsScalar}
 pub use Rattle.std.specs.List.{All, AllByRecursion, cons_option, flat_map, list_any, position_from}
 pub use Rattle.std.specs.Option.{option_or}
 pub use Rattle.std.specs.Ordering.{eq_by_cmp, is_eq, nat_cmp}
-pub use Rattle.std.specs.Prelude.{◌↔◌, Box, IfErr, IsErr, IsErrAnd, IsOk, IsSome, IsUtf8, codes, decimal, is_ok}
-pub use Rattle.std.specs.Prelude.{reverse, unwrap_or}
+pub use Rattle.std.specs.Prelude.{◌↔◌, Box, IfErr, IsErr, IsErrAnd, IsOk, IsSome, IsUtf8, MatchResult, codes, decimal}
+pub use Rattle.std.specs.Prelude.{is_ok, reverse, unwrap_or}
 pub use Rattle.tag_table.specs.Priority.{IsOrdered, IsUnknown, Order, lowered, raised}
 pub use Rattle.tag_table.specs.Tags.{AreTags, Tag, Tags, first_slot, names_of, sel, slot_of, slots_of}
 pub use Rattle.tcl_words.proofs.ListGrowth.{goes_nowhere, goes_on}

@@ -4,11 +4,11 @@ use Rattle.documents.proofs.Common.{refl, sym, ap, ◌∙◌, subst, true≢fals
 use Rattle.documents.proofs.Common.{slice_get, none-some, append_assoc, map-append, filter-in, filter-out}
 use Rattle.documents.proofs.Common.{if◌then◌else◌, All, All-cons, All-nil, All-head, All-tail, AllByRecursion}
 use Rattle.documents.proofs.Common.{LimitTable, Place, is_same, is_among, Document, Widget, IsWellFormedDocument}
-use Rattle.documents.proofs.Common.{window_names, is_kept, AreOthers, AreSingle, TellsMarks, mark_at, mark_carried}
-use Rattle.documents.proofs.Common.{own_keys, MarkChange, MarkKey, without_widgets, IsMarkChange, carried_all, gone}
-use Rattle.documents.proofs.Common.{marks_dropped, flat_map-append, same-word, words-are}
-use Rattle.documents.proofs.ListedMarksLaws.{own_listed}
-use Rattle.documents.proofs.MarkReportLaws.{apart-current, apart-kinds, by-kind, current_key, insert_key, own_of}
+use Rattle.documents.proofs.Common.{window_names, is_kept, AreSingle, TellsMarks, mark_at, mark_carried, own_keys}
+use Rattle.documents.proofs.Common.{MarkChange, MarkKey, without_widgets, IsMarkChange, carried_all, gone}
+use Rattle.documents.proofs.Common.{marks_dropped, flat_map-append, same-word, words-are, All-map}
+use Rattle.documents.proofs.MarkReportLaws.{AreApartFrom, AreOthersThan, all-mapped, apart-current, by-kind}
+use Rattle.documents.proofs.MarkReportLaws.{current-apart, current_key, insert-apart, insert_key, own_listed, own_of}
 use Rattle.std.specs.List.{IsDistinct}
 
 -- ---- a list of them, name by name
@@ -41,60 +41,7 @@ dropped-past document names own at name first marks is stays before =
     filter-out (λ n. is_among n names) own at name is stays in
     before ∙ ap (λ ns. first ++ map (gone document) (own_listed ns)) (sym same)
 
--- ---- keys of widgets of different names
-
-abbrev AreApart : MarkKey → List MarkKey → Type 0
-AreApart key keys = All (λ (other : MarkKey). other ≢ key) keys
-
-abbrev AreOthersThan : List ℕ → List (List ℕ) → Type 0
-AreOthersThan name names = AllByRecursion (λ (other : List ℕ). is_same name other ≡ false) names
-
--- a key of one name is none of other names
-own-apart : (key : List ℕ → MarkKey) (name : List ℕ) (names : List (List ℕ)) →
-    ((other : List ℕ) → is_same name other ≡ false → insert_key other ≢ key name)
-    → ((other : List ℕ) → is_same name other ≡ false → current_key other ≢ key name)
-    → AreOthersThan name names → AreApart (key name) (own_listed names)
-own-apart key name [] inserts currents apart = All-nil (λ (other : MarkKey). other ≢ key name)
-own-apart key name (other ∷ names) inserts currents apart =
-    let P : MarkKey → Type 0 = λ (o : MarkKey). o ≢ key name in
-    All-cons P (insert_key other) (current_key other ∷ own_listed names) (inserts other apart.0)
-    (All-cons P (current_key other) (own_listed names) (currents other apart.0)
-    (own-apart key name names inserts currents apart.1))
-
-other-key : (key : List ℕ → MarkKey) (name other : List ℕ) → ((n : List ℕ) → (key n).name ≡ n)
-    → is_same name other ≡ false → key other ≢ key name
-other-key key name other named differs same =
-    let names : other ≡ name = sym (named other) ∙ ap (λ (k : MarkKey). k.name) same ∙ named name in
-    absurd (true≢false (sym (ap (is_same name) names ∙ same-word name) ∙ differs))
-
-insert-apart : (name : List ℕ) (names : List (List ℕ)) → AreOthersThan name names →
-    AreApart (insert_key name) (own_listed names)
-insert-apart name names =
-    own-apart insert_key name names (λ other. other-key insert_key name other (λ n. refl))
-    (λ other _. apart-current other name)
-
-current-apart : (name : List ℕ) (names : List (List ℕ)) → AreOthersThan name names →
-    AreApart (current_key name) (own_listed names)
-current-apart name names =
-    own-apart current_key name names (λ other _. apart-kinds other name)
-    (λ other. other-key current_key name other (λ n. refl))
-
-others-gone : (document : Document) (key : MarkKey) (keys : List MarkKey) → AreApart key keys →
-    AreOthers key (map (gone document) keys)
-others-gone document key [] apart = All-nil (λ (mark : MarkChange). mark.key ≢ key)
-others-gone document key (other ∷ keys) apart =
-    All-cons (λ (mark : MarkChange). mark.key ≢ key) (gone document other) (map (gone document) keys)
-    (All-head (λ (o : MarkKey). o ≢ key) other keys apart)
-    (others-gone document key keys (All-tail (λ (o : MarkKey). o ≢ key) other keys apart))
-
-gone-others : (document : Document) (key : MarkKey) (keys : List MarkKey) →
-    AreOthers key (map (gone document) keys) → AreApart key keys
-gone-others document key [] apart = All-nil (λ (other : MarkKey). other ≢ key)
-gone-others document key (other ∷ keys) apart =
-    let P : MarkChange → Type 0 = λ (mark : MarkChange). mark.key ≢ key in
-    All-cons (λ (o : MarkKey). o ≢ key) other keys
-    (All-head P (gone document other) (map (gone document) keys) apart)
-    (gone-others document key keys (All-tail P (gone document other) (map (gone document) keys) apart))
+-- ---- each mark is listed once
 
 others-going : (names own : List (List ℕ)) (name : List ℕ) → AreOthersThan name own → AreOthersThan name (going names own)
 others-going names [] name apart = tt
@@ -103,7 +50,6 @@ others-going names (other ∷ own) name apart =
     elim (is_among other names) as (λ b. AreOthersThan name (cond b (other ∷ going names own) (going names own)))
     [ true ↦ (apart.0, rest) | false ↦ rest ]
 
--- each mark is listed once
 single-gone : (document : Document) (names own : List (List ℕ)) → IsDistinct is_same own →
     AreSingle (map (gone document) (own_listed (going names own)))
 unfolding IsDistinct
@@ -115,10 +61,14 @@ single-gone document names (name ∷ own) distinct =
     elim (is_among name names) as (λ b. AreSingle (map (gone document) (own_listed (cond b (name ∷ going names own)
     (going names own))))) [
       | true ↦ (
-        others-gone document (insert_key name) (current_key name ∷ keys)
+        All-map (λ (mark : MarkChange). mark.key ≢ insert_key name) (gone document) (current_key name ∷ keys)
             (All-cons (λ (o : MarkKey). o ≢ insert_key name) (current_key name) keys (apart-current name name)
             (insert-apart name (going names own) apart)),
-        (others-gone document (current_key name) keys (current-apart name (going names own) apart), rest),
+        (
+          All-map (λ (mark : MarkChange). mark.key ≢ current_key name) (gone document) keys
+              (current-apart name (going names own) apart),
+          rest,
+        ),
       )
       | false ↦ rest
     ]
@@ -173,16 +123,16 @@ names_in widgets = map (λ (widget : Widget). widget.name) widgets
 -- one that goes and isn't listed isn't there
 found-unlisted : (get : Widget → Place) (key : List ℕ → MarkKey) (names : List (List ℕ)) (name : List ℕ)
     (widgets : List Widget) → is_among name names ≡ true
-    → ((other : List ℕ) (keys : List MarkKey) → AreApart (key name) (insert_key other ∷ current_key other ∷ keys) →
+    → ((other : List ℕ) (keys : List MarkKey) → AreApartFrom (key name) (insert_key other ∷ current_key other ∷ keys) →
     key other ≢ key name)
-    → AreApart (key name) (own_listed (going names (names_in widgets))) → own_of get name widgets ≡ None
+    → AreApartFrom (key name) (own_listed (going names (names_in widgets))) → own_of get name widgets ≡ None
 found-unlisted get key names name [] goes first apart = refl
 found-unlisted get key names name (widget ∷ widgets) goes first apart =
     let others = own_listed (going names (names_in widgets)) in
     let P : MarkKey → Type 0 = λ (o : MarkKey). o ≢ key name in
-    let tail : AreApart (key name) others =
-    elim (is_among widget.name names) as (λ b. AreApart (key name) (own_listed (cond b
-    (widget.name ∷ going names (names_in widgets)) (going names (names_in widgets)))) → AreApart (key name) others) [
+    let tail : AreApartFrom (key name) others =
+    elim (is_among widget.name names) as (λ b. AreApartFrom (key name) (own_listed (cond b
+    (widget.name ∷ going names (names_in widgets)) (going names (names_in widgets)))) → AreApartFrom (key name) others) [
       | true ↦ λ all. All-tail P (current_key widget.name) others
           (All-tail P (insert_key widget.name) (current_key widget.name ∷ others) all)
       | false ↦ λ all. all
@@ -192,7 +142,7 @@ found-unlisted get key names name (widget ∷ widgets) goes first apart =
       | true ↦ λ same.
           let named : widget.name ≡ name = words-are widget.name name same in
           let listed : is_among widget.name names ≡ true = ap (λ n. is_among n names) named ∙ goes in
-          absurd (first widget.name others (subst (λ b. AreApart (key name) (own_listed (cond b
+          absurd (first widget.name others (subst (λ b. AreApartFrom (key name) (own_listed (cond b
           (widget.name ∷ going names (names_in widgets)) (going names (names_in widgets))))) listed apart) (ap key named))
       | false ↦ λ _. found-unlisted get key names name widgets goes first tail
     ] refl
@@ -272,9 +222,9 @@ module _ (names : List (List ℕ)) (document : Document) where
 
   -- a mark that isn't listed is where it was
   kept-mark : (get : Widget → Place) (key : List ℕ → MarkKey) (name : List ℕ)
-      → ((other : List ℕ) (keys : List MarkKey) → AreApart (key name) (insert_key other ∷ current_key other ∷ keys) →
+      → ((other : List ℕ) (keys : List MarkKey) → AreApartFrom (key name) (insert_key other ∷ current_key other ∷ keys) →
       key other ≢ key name)
-      → AreApart (key name) (own_listed (going names (window_names document)))
+      → AreApartFrom (key name) (own_listed (going names (window_names document)))
       → own_of get name (left_of names document.widgets) ≡ own_of get name document.widgets
   kept-mark get key name first apart =
       elim (is_among name names) as (λ b. is_among name names ≡ b →
@@ -284,10 +234,10 @@ module _ (names : List (List ℕ)) (document : Document) where
         | false ↦ λ stays. found-same get names name document.widgets stays
       ] refl
 
-  kept-others : (key : MarkKey) → AreApart key (own_listed (going names (window_names document))) →
+  kept-others : (key : MarkKey) → AreApartFrom key (own_listed (going names (window_names document))) →
       mark_at (without_widgets names document) key ≡ mark_at document key
   kept-others =
-      by-kind (λ key. AreApart key (own_listed (going names (window_names document)))
+      by-kind (λ key. AreApartFrom key (own_listed (going names (window_names document)))
       → mark_at (without_widgets names document) key ≡ mark_at document key)
       (λ name. kept-mark (λ (w : Widget). w.insert) insert_key name (λ other keys all.
       All-head (λ (o : MarkKey). o ≢ insert_key name) (insert_key other) (current_key other ∷ keys) all))
@@ -305,6 +255,7 @@ module _ (names : List (List ℕ)) (document : Document) where
         (all-there (λ (w : Widget). w.current) names document.widgets);
     single = single-gone document names (window_names document) formed.widget_names;
     others = λ key others. kept-others key
-        (gone-others document key (own_listed (going names (window_names document))) others)
+        (all-mapped (λ (mark : MarkChange). mark.key ≢ key) (gone document)
+        (own_listed (going names (window_names document))) others)
         ∙ sym (carried-none document key);
   }

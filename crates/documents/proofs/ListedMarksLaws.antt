@@ -2,16 +2,12 @@
 use Rattle.documents.proofs.Common.{◌≡◌, ◌≢◌, ℕ, ◌+◌, Bool, true, false, ◌||◌, List, [], ◌∷◌, ◌++◌, Some, map, take}
 use Rattle.documents.proofs.Common.{refl, sym, ap, ap₂, ◌∙◌, inl, inr, option_map, if◌then◌else◌, append_assoc}
 use Rattle.documents.proofs.Common.{true≢false, false≢true, All-head, All-nil, All-push, All-tail, arith, map-append}
-use Rattle.documents.proofs.Common.{map-map, flat_map-map, same_Some, slice_get, take-found, position_from, is_among}
-use Rattle.documents.proofs.Common.{is_own, is_same, literal, Document, Parts, SharedMark, Widget, mark_unset}
-use Rattle.documents.proofs.Common.{mark_number, placed, widget_of, Stands, Mark, Named, suc, AreListed, shared_key}
-use Rattle.documents.proofs.Common.{AreOthers, AreSingle, AreWatched, HasMarksBut, mark_at, mark_key, mark_keys}
-use Rattle.documents.proofs.Common.{own_keys, watched, MarkChange, MarkKey, flat_map, flat_map-append, among-other}
-use Rattle.documents.proofs.Common.{words-are}
+use Rattle.documents.proofs.Common.{map-map, same_Some, slice_get, take-found, position_from, is_among, is_own, is_same, literal, Document, Parts, SharedMark, Widget, mark_unset, mark_number, placed, Stands, suc, AreListed, shared_key, AreOthers, AreSingle, AreWatched, HasMarksBut, mark_at, mark_key, mark_keys, own_keys, watched, MarkChange, MarkKey, flat_map-append, among-other, words-are}
 use Rattle.name_list.specs.Names.{names_of}
-use Rattle.documents.proofs.MarkReportLaws.{all-back, all-front, by-kind, current_key, insert_key}
+use Rattle.documents.proofs.MarkReportLaws.{all-back, all-front, by-kind, current_key, insert_key, own_listed}
 use Rattle.documents.proofs.MarksToldLaws.{left-none, left-other, same-number, sought}
-use Rattle.documents.proofs.PlacedLaws.{StandsMark, found_mark}
+use Rattle.documents.proofs.PlacedLaws.{StandsMark, found_mark, placed-names}
+use Rattle.documents.proofs.WellFormedLaws.{windows-kept}
 use Rattle.mark_table.specs.SharedMarks.{names_of as mark_names}
 
 -- ---- the mark of a name
@@ -44,9 +40,6 @@ listed-one document marks more key other none is same =
 
 -- ---- all marks, by the names of widgets and of shared marks
 
-abbrev pub own_listed : List (List ℕ) → List MarkKey
-own_listed names = flat_map own_keys names
-
 abbrev pub shared_listed : List (List ℕ) → List MarkKey
 shared_listed names = map shared_key names
 
@@ -77,23 +70,11 @@ shared-more document first names at name marks more is before after =
 pub keys-kept : {parts : Parts} {document : Document} → Stands parts document →
     own_listed (names_of parts.seats.entries) ++ shared_listed (mark_names parts.marks.marks) ≡ mark_keys document
 keys-kept {parts} {document} stands =
-    let seats = parts.seats.entries in
-    let marks = parts.marks.marks in
-    ap₂ (λ (own shared : List MarkKey). own ++ shared)
-    (flat_map-map own_keys (λ (seat : Named). seat.name) seats
-    ∙ sym (flat_map-map (λ (widget : Widget). own_keys widget.name) (widget_of parts.journal parts.content.marks) seats))
-    (map-map shared_key (λ (mark : Mark). mark.name) marks
-    ∙ sym (map-listed parts))
+    let marks = placed parts.content.marks parts.marks.marks in
+    ap₂ (λ (own : List (List ℕ)) (shared : List MarkKey). own_listed own ++ shared) (sym (windows-kept parts))
+    (ap shared_listed (sym (placed-names parts.content.marks parts.marks.marks))
+    ∙ map-map shared_key (λ (mark : SharedMark). mark.name) marks)
     ∙ ap mark_keys stands.is
-  where
-    map-listed : (parts : Parts) → map (λ (mark : SharedMark). shared_key mark.name)
-        (placed parts.content.marks parts.marks.marks) ≡ map (λ (mark : Mark). shared_key mark.name) parts.marks.marks
-    map-listed parts = by parts.marks.marks
-      where
-        by : (marks : List Mark) → map (λ (mark : SharedMark). shared_key mark.name) (placed parts.content.marks marks)
-            ≡ map (λ (mark : Mark). shared_key mark.name) marks
-        by [] = refl
-        by (mark ∷ marks) = ap (λ (keys : List MarkKey). shared_key mark.name ∷ keys) (by marks)
 
 -- ---- shared marks among some words
 

@@ -7,14 +7,13 @@ use Rattle.documents.proofs.Common.{map-append, none-some, same_Some, bytes_eq-D
 use Rattle.documents.proofs.Common.{AreMarks, Mark, SharedMarks, first_number, number_of, turned, MOST_WIDGETS, Right}
 use Rattle.documents.proofs.Common.{Place, Content, Marks, MarksStand, LimitTable, Empty, TooManyMarks, new_mark}
 use Rattle.documents.proofs.Common.{is_left, IsMadeMark, marks_left, numbers_named, taken, is_among, is_own, is_same}
-use Rattle.documents.proofs.Common.{literal, Document, Journal, Parts, SharedMark, Widget, document_of, mark_of, placed}
+use Rattle.documents.proofs.Common.{Document, Journal, Parts, SharedMark, Widget, document_of, mark_of, placed}
 use Rattle.documents.proofs.Common.{widget_at, widget_of, AreMarked, AreSeats, HasOwnMarks, IsMarked, Stands}
-use Rattle.documents.proofs.Common.{mark_unset, place_named, set_found, with_current, with_insert, with_shared, Change}
-use Rattle.documents.proofs.Common.{Does, answered, refused, ◌||◌, filter, not, Option, None, Some, Ok, option_map}
-use Rattle.documents.proofs.Common.{true≢false, is_named}
+use Rattle.documents.proofs.Common.{mark_unset, set_found, with_current, with_insert, with_shared, Change, answered}
+use Rattle.documents.proofs.Common.{refused, filter, not, Option, None, Some, Ok, option_map, true≢false, is_named}
 use Rattle.std.specs.Cmp.{nat_cmp_total, unsigned_tied}
 use Rattle.mark_table.specs.SharedMarks.{numbers_of}
-use Rattle.documents.proofs.ChangeLaws.{Leaves, does-changed, does-nothing, stands-same}
+use Rattle.documents.proofs.ChangeLaws.{Leaves, does-changed}
 use Rattle.documents.proofs.PartsLaws.{Sits, mapped-at, marks-kept}
 use Rattle.documents.proofs.PlacedLaws.{AreAlike, StandsMark, found_mark, marked-alike, placed-alike}
 use Rattle.std.specs.FinMap as finite
@@ -322,45 +321,17 @@ leaves-current limits old document place slot target changed stands sits within 
     other (omega (arith, one))) in
     λ i. record (widget_of old.journal places seat) { insert = insert seat i; current = current i })
 
--- the table and the store are as they were
-pub stands-unmarked : (old : Parts) (new : SharedMarks) (changed : Content) (document : Document) →
-    Stands old document → new ≡ old.marks → changed ≡ old.content
-    → Stands (record old { marks = new; content = changed }) document
-stands-unmarked old new changed document stands table is = stands-same stands (λ i.
-    record old { marks = table i; content = is i })
-
-unnamed : (places : Marks) (word : List ℕ) (place : Place) (marks : List Mark) → number_of word marks ≡ None
-    → map (λ (mark : SharedMark). if is_same word mark.name then record mark { place = place }
-    else mark) (placed places marks) ≡ placed places marks
-unnamed places word place [] none = refl
-unnamed places word place (mark ∷ marks) none = by (is_named word mark) refl (unnamed places word place marks)
-  where
-    by : (b : Bool) → is_named word mark ≡ b
-        → (number_of word marks ≡ None → map (λ (m : SharedMark). if is_same word m.name then record m { place = place }
-        else m) (placed places marks) ≡ placed places marks)
-        → map (λ (m : SharedMark). if is_same word m.name then record m { place = place }
-        else m) (placed places (mark ∷ marks)) ≡ placed places (mark ∷ marks)
-    by true same rest = absurd (none-some mark.number (sym none
-        ∙ ap (λ b. option_map (λ (m : Mark). m.number) (cond b (Some mark) (find (is_named word) marks))) same))
-    by false other rest =
-        ap₂ (λ (first : SharedMark) others. first ∷ others)
-        (ap (λ b. if b then record { name = mark.name; place = place }
-        else record { name = mark.name; place = mark_of places mark.number }) other)
-        (rest (sym (ap (λ b. option_map (λ (m : Mark). m.number) (cond b (Some mark) (find (is_named word) marks)))
-        other) ∙ none))
-
-pub does-unnamed : (limits : LimitTable) (old : Parts) (document : Document) (word : List ℕ) (place : Place) →
-    Stands old document → number_of word old.marks.marks ≡ None
-    → Does limits document document (Ok Empty) (answered (with_shared document word place) Empty)
-does-unnamed limits old document word place stands none =
-    let lone : Document = document_of old in
-    let same : with_shared lone word place
-    ≡ lone = ap (λ marks. record lone { marks = marks }) (unnamed old.content.marks word place old.marks.marks none)
-    in
-    let is : with_shared document word place
-    ≡ document = subst (λ (d : Document). with_shared d word place ≡ d) stands.is same in
-    does-nothing limits document (answered (with_shared document word place) Empty)
-    (ap (λ (d : Document). answered d Empty) is)
+-- where none is found, none is changed
+pub map-other : {A : Type 0} (test : A → Bool) (turn : A → A) (xs : List A) → find test xs ≡ None →
+    map (λ (x : A). if test x then turn x else x) xs ≡ xs
+map-other test turn [] none = refl
+map-other test turn (x ∷ xs) none =
+    elim (test x) as (λ b. test x ≡ b → (if b then turn x else x) ∷ map (λ y. if test y then turn y else y) xs
+    ≡ x ∷ xs) [
+      | true ↦ λ same. absurd (none-some x (sym none ∙ ap (λ b. cond b (Some x) (find test xs)) same))
+      | false ↦ λ other. ap (λ ys. x ∷ ys)
+          (map-other test turn xs (sym (ap (λ b. cond b (Some x) (find test xs)) other) ∙ none))
+    ] refl
 
 -- of these marks those of a name have a number, and no others
 pub record HasNumber (word : List ℕ) (number : ℕ) (mark : Mark) : Type 0 where
@@ -499,24 +470,17 @@ turned-same places word number place (mark ∷ marks) have each stored =
     ] refl)
     (turned-same places word number place marks (λ at. have (suc at)) each.1 stored)
 
-pub leaves-moved : (limits : LimitTable) (old : Parts) (changed : Content) (document : Document) (word : List ℕ)
-    (number offset : ℕ) (found : Place) → Stands old document → offset ≤ length old.content.cells
-    → number_of word old.marks.marks ≡ Some number → finite.get old.content.marks number ≡ Some found
-    → changed ≡ put_in number (record found { offset = offset }) old.content
-    → Leaves limits (record old { content = changed }) document (Ok Empty)
-    (answered (with_shared document word (record found { offset = offset })) Empty)
-leaves-moved limits old changed document word number offset found stands within known stored is =
+pub turned-kept : {old : Parts} {document : Document} (word : List ℕ) (number : ℕ) (found : Place) →
+    Stands old document → number_of word old.marks.marks ≡ Some number
+    → finite.get old.content.marks number ≡ Some found → turned word found.gravity old.marks.marks ≡ old.marks.marks
+turned-kept {old} {document} word number found stands known stored =
     let marks = old.marks.marks in
     let marked = stands.sound.marked in
     elim (found_mark old.content.marks word marks 0 marked.each) [
       | inl none ↦ absurd (none-some number (sym none.0 ∙ known))
-      | inr there ↦
-          let one : there.mark.number ≡ number = same_Some there.mark.number number (sym there.number ∙ known) in
-          let have : HaveNumber word number marks = subst (λ n. HaveNumber word n marks) one
-          (have-number old.content.marks word old.marks marked.marks there) in
-          let same = turned-same old.content.marks word number found marks have marked.each stored in
-          leaves-turned limits old old.marks changed document word number (record found { offset = offset }) stands
-          within known marked.marks (λ i. record old.marks { marks = sym same i }) is
+      | inr there ↦ turned-same old.content.marks word number found marks
+          (subst (λ n. HaveNumber word n marks) (same_Some there.mark.number number (sym there.number ∙ known))
+          (have-number old.content.marks word old.marks marked.marks there)) marked.each stored
     ]
 
 each-append : (P : Mark → Type 0) (marks : List Mark) (mark : Mark) → AllByRecursion P marks → P mark →
@@ -746,41 +710,3 @@ leaves-unset {old} {new} {changed} {document} {numbers} limits names stands soun
     (λ few. omega (arith, count, few)) (ap (λ (d : Document). answered d Empty) (sym whole)) in
     subst (λ (p : Parts). Leaves limits p document (Ok Empty) (mark_unset document names)) (λ i.
     record old { marks = sym table i; content = sym is i }) done
-
--- ---- a new name
-
-abbrev sought_place : List ℕ → Document → Option Place
-sought_place word document =
-    option_map (λ (mark : SharedMark). mark.place) (find (λ (mark : SharedMark). is_same word mark.name) document.marks)
-
--- a name that no mark has is none of a widget's own, and none in the table
-pub new-name : (parts : Parts) (document : Document) (widget : Widget) (word : List ℕ) → Stands parts document →
-    place_named document widget word ≡ None
-    → (is_own word ≡ false) × (number_of word parts.marks.marks ≡ None)
-new-name parts document widget word stands none =
-    by (is_same word (literal "insert")) (is_same word (literal "current")) refl refl
-  where
-    by : (b c : Bool) → is_same word (literal "insert") ≡ b → is_same word (literal "current") ≡ c →
-        (is_own word ≡ false) × (number_of word parts.marks.marks ≡ None)
-    by true c is also =
-        absurd (none-some widget.insert (sym none
-        ∙ ap (λ test. if test then Some widget.insert
-        else (if is_same word (literal "current") then Some widget.current else sought_place word document)) is))
-    by false true is also =
-        absurd (none-some widget.current (sym none
-        ∙ ap₂ (λ test other. if test then Some widget.insert
-        else (if other then Some widget.current else sought_place word document)) is also))
-    by false false is also = (
-      ap₂ (λ a b. a || b) is also,
-      elim (found_mark parts.content.marks word parts.marks.marks 0 stands.sound.marked.each) [
-        | inl unknown ↦ unknown.0
-        | inr there ↦
-            let place : Place = mark_of parts.content.marks there.mark.number in
-            let found : sought_place word document ≡ Some place =
-            ap (sought_place word) (sym stands.is)
-            ∙ ap (option_map (λ (mark : SharedMark). mark.place)) there.sought in
-            absurd (none-some place (sym none
-            ∙ ap₂ (λ test other. if test then Some widget.insert
-            else (if other then Some widget.current else sought_place word document)) is also ∙ found))
-      ],
-    )

@@ -1,16 +1,19 @@
 -- What is found of the marks of a document.
-use Rattle.documents.proofs.Common.{◌≡◌, ℕ, zero, suc, ◌+◌, ◌-◌, ◌*◌, ◌<◌, ◌≤◌, Bool, true, false, List, [], ◌∷◌}
-use Rattle.documents.proofs.Common.{length, refl, sym, ap, ap₂, ◌∙◌, arith, inl, inr, IfSome, find, slice_get, nat_le}
-use Rattle.documents.proofs.Common.{is_some, option_and_then, unwrap_or, if◌then◌else◌, AllByRecursion, position_from}
-use Rattle.documents.proofs.Common.{false≢true, nat_tests, none-some, same_Some, Contains-from_stands, Mark, number_of}
-use Rattle.documents.proofs.Common.{Place, Marks, shared_place, new_mark, is_same, literal, Document, Parts, SharedMark}
-use Rattle.documents.proofs.Common.{Widget, mark_of, placed, widget_at, IsMarked, Stands, place_named, mark_number}
-use Rattle.documents.proofs.Common.{mark_place, view_end, view_start, Contains, Option, None, Some, option_map, ◌&&◌}
+use Rattle.documents.proofs.Common.{◌≡◌, ℕ, zero, suc, ◌+◌, ◌-◌, ◌<◌, ◌≤◌, Bool, true, false, List, [], ◌∷◌, refl, sym}
+use Rattle.documents.proofs.Common.{ap, ap₂, ◌∙◌, arith, inl, inr, find, slice_get, nat_le, is_some, option_and_then}
+use Rattle.documents.proofs.Common.{unwrap_or, if◌then◌else◌, AllByRecursion, position_from, false≢true, nat_tests}
+use Rattle.documents.proofs.Common.{none-some, same_Some, Contains-from_stands, Mark, number_of, Place, Marks}
+use Rattle.documents.proofs.Common.{shared_place, new_mark, is_same, literal, Document, Parts, SharedMark, Widget}
+use Rattle.documents.proofs.Common.{mark_of, placed, widget_at, IsMarked, Stands, mark_number, mark_place, view_end}
+use Rattle.documents.proofs.Common.{view_start, Contains, Option, None, Some, option_map, ◌&&◌}
 use Rattle.mark_table.specs.SharedMarks.{numbers_of}
-use Rattle.documents.proofs.MeaningLaws.{current-is, insert-is}
-use Rattle.documents.proofs.PartsLaws.{Sits, cells-kept}
 use Rattle.documents.proofs.PlacedLaws.{StandsMark, found_mark, marked-there, there_is}
 use Rattle.std.specs.FinMap as finite
+
+-- where the shared mark of a name stands, if there is one
+abbrev pub sought_place : List ℕ → Document → Option Place
+sought_place word document =
+    option_map (λ (mark : SharedMark). mark.place) (find (λ (mark : SharedMark). is_same word mark.name) document.marks)
 
 -- a name that isn't one of a widget's own
 pub record IsShared (word : List ℕ) : Type 0 where
@@ -151,66 +154,28 @@ module _ {parts : Parts} {document : Document} (stands : Stands parts document) 
         false≢true (sym (ap is_some stored)
         ∙ marked-at parts.marks.marks place number stands.sound.marked.each numbered)
 
-  -- ---- the place of a name
+  -- ---- the place of a shared mark
 
-  -- a place that is found is one of the text
-  pub place-within : (number : ℕ) (found : Option Place) → found ≡ finite.get places number →
-      IfSome found (λ place. place.offset ≤ length document.cells)
-  place-within number None is = tt
-  place-within number (Some place) is =
-      omega (arith, cells-kept parts document stands.is, stands.sound.kept.marks number place (sym is))
+  sought-is : (word : List ℕ) → sought_place word document ≡ option_map (λ (mark : SharedMark). mark.place)
+      (find (λ (mark : SharedMark). is_same word mark.name) listed)
+  sought-is word =
+      ap (λ ms. option_map (λ (mark : SharedMark). mark.place) (find (λ (mark : SharedMark). is_same word mark.name) ms))
+      marks-are
 
-  module _ {at slot : ℕ} (sits : Sits parts document at slot) where
-    abbrev actor : Widget
-    actor = widget_at document at
+  pub sought-none : (word : List ℕ) → number_of word parts.marks.marks ≡ None → sought_place word document ≡ None
+  sought-none word none = elim (found_mark places word parts.marks.marks 0 stands.sound.marked.each) [
+    | inl unknown ↦ sought-is word ∙ ap (option_map (λ (mark : SharedMark). mark.place)) unknown.2
+    | inr there ↦ absurd (none-some there.mark.number (sym none ∙ there.number))
+  ]
 
-    abbrev sought : List ℕ → Option Place
-    sought word = option_map (λ (mark : SharedMark). mark.place)
-        (find (λ (mark : SharedMark). is_same word mark.name) document.marks)
-
-    pub place-insert : (word : List ℕ) → is_same word (literal "insert") ≡ true →
-        finite.get places (2 * slot) ≡ place_named document actor word
-    place-insert word is =
-        there_is (finite.get places (2 * slot)) sits.insert
-        ∙ ap Some (sym (insert-is parts document at slot stands sits))
-        ∙ sym (ap (λ b. if b then Some actor.insert
-        else (if is_same word (literal "current") then Some actor.current else sought word)) is)
-
-    pub place-current : (word : List ℕ) → is_same word (literal "insert") ≡ false →
-        is_same word (literal "current") ≡ true → finite.get places (2 * slot + 1) ≡ place_named document actor word
-    place-current word other is =
-        there_is (finite.get places (2 * slot + 1)) sits.current
-        ∙ ap Some (sym (current-is parts document at slot stands sits))
-        ∙ sym (ap₂ (λ b c. if b then Some actor.insert else (if c then Some actor.current else sought word)) other is)
-
-  module _ (at : ℕ) where
-    abbrev asker : Widget
-    asker = widget_at document at
-
-    place-shared : (word : List ℕ) → IsShared word
-        → place_named document asker word ≡ option_map (λ (mark : SharedMark). mark.place)
-        (find (λ (mark : SharedMark). is_same word mark.name) listed)
-    place-shared word shared =
-        ap₂ (λ b c. if b then Some asker.insert else (if c then Some asker.current
-        else option_map (λ (mark : SharedMark). mark.place)
-        (find (λ (mark : SharedMark). is_same word mark.name) document.marks))) shared.insert shared.current
-        ∙ ap (λ ms. option_map (λ (mark : SharedMark). mark.place)
-        (find (λ (mark : SharedMark). is_same word mark.name) ms)) marks-are
-
-    pub place-none : (word : List ℕ) → IsShared word → number_of word parts.marks.marks ≡ None →
-        None ≡ place_named document asker word
-    place-none word shared none = elim (found_mark places word parts.marks.marks 0 stands.sound.marked.each) [
-      | inl unknown ↦ sym (ap (option_map (λ (mark : SharedMark). mark.place)) unknown.2)
-          ∙ sym (place-shared word shared)
-      | inr there ↦ absurd (none-some there.mark.number (sym none ∙ there.number))
-    ]
-
-    pub place-known : (word : List ℕ) (number : ℕ) → IsShared word → number_of word parts.marks.marks ≡ Some number →
-        finite.get places number ≡ place_named document asker word
-    place-known word number shared known = elim (found_mark places word parts.marks.marks 0 stands.sound.marked.each) [
-      | inl unknown ↦ absurd (none-some number (sym unknown.0 ∙ known))
-      | inr there ↦
-          ap (finite.get places) (same_Some number there.mark.number (sym known ∙ there.number))
-          ∙ there_is (finite.get places there.mark.number) (marked-there places there.mark there.marked)
-          ∙ sym (ap (option_map (λ (mark : SharedMark). mark.place)) there.sought) ∙ sym (place-shared word shared)
-    ]
+  pub sought-known : (word : List ℕ) (number : ℕ) → number_of word parts.marks.marks ≡ Some number →
+      (place : Place) × (finite.get places number ≡ Some place) × (sought_place word document ≡ Some place)
+  sought-known word number known = elim (found_mark places word parts.marks.marks 0 stands.sound.marked.each) [
+    | inl unknown ↦ absurd (none-some number (sym unknown.0 ∙ known))
+    | inr there ↦ (
+      mark_of places there.mark.number,
+      ap (finite.get places) (same_Some number there.mark.number (sym known ∙ there.number))
+          ∙ there_is (finite.get places there.mark.number) (marked-there places there.mark there.marked),
+      sought-is word ∙ ap (option_map (λ (mark : SharedMark). mark.place)) there.sought,
+    )
+  ]

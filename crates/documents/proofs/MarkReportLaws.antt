@@ -8,6 +8,7 @@ use Rattle.documents.proofs.Common.{set_found, with_current, with_insert, with_m
 use Rattle.documents.proofs.Common.{IsPlaced, IsWellFormedDocument, new_widget, with_peer, shared_key, AreOthers}
 use Rattle.documents.proofs.Common.{AreWatched, HasMarksBut, mark_at, mark_key, mark_keys, own_keys, watched}
 use Rattle.documents.proofs.Common.{MarkChange, MarkKey, MarkKind, Current, Shared, flat_map, same-word, words-are}
+use Rattle.documents.proofs.Common.{true≢false, window_names, slice_index_or, All-map}
 use Rattle.documents.specs.declared.mark_lists.MarkKind.TheVariants.{Insert}
 use Rattle.documents.proofs.MarksToldLaws.{made_mark, made-other, shared-other, sought}
 use Rattle.std.specs.List.{IsDistinct}
@@ -48,29 +49,19 @@ other-name key a b apart = false_from_ne_true (is_same a b) (λ same. apart (ap 
 
 -- ---- keys of a list
 
-abbrev AreApartFrom : MarkKey → List MarkKey → Type 0
+abbrev pub AreApartFrom : MarkKey → List MarkKey → Type 0
 AreApartFrom key keys = All (λ (other : MarkKey). other ≢ key) keys
 
 abbrev AreApartKeys : List MarkKey → Type 0
 AreApartKeys [] = Unit {0}
 AreApartKeys (key ∷ keys) = AreApartFrom key keys × AreApartKeys keys
 
-others-from : (document : Document) (key : MarkKey) (keys : List MarkKey) → AreApartFrom key keys →
-    AreOthers key (map (watched document) keys)
-others-from document key [] apart = All-nil (λ (mark : MarkChange). mark.key ≢ key)
-others-from document key (other ∷ keys) apart =
-    All-cons (λ (mark : MarkChange). mark.key ≢ key) (watched document other) (map (watched document) keys)
-    (All-head (λ (o : MarkKey). o ≢ key) other keys apart)
-    (others-from document key keys (All-tail (λ (o : MarkKey). o ≢ key) other keys apart))
-
-from-others : (document : Document) (key : MarkKey) (keys : List MarkKey) →
-    AreOthers key (map (watched document) keys) → AreApartFrom key keys
-from-others document key [] apart = All-nil (λ (other : MarkKey). other ≢ key)
-from-others document key (other ∷ keys) apart =
-    All-cons (λ (o : MarkKey). o ≢ key) other keys
-    (All-head (λ (mark : MarkChange). mark.key ≢ key) (watched document other) (map (watched document) keys) apart)
-    (from-others document key keys
-    (All-tail (λ (mark : MarkChange). mark.key ≢ key) (watched document other) (map (watched document) keys) apart))
+-- what holds of what is made of each element
+pub all-mapped : {A B : Type 0} (P : B → Type 0) (f : A → B) (xs : List A) → All P (map f xs) →
+    All (λ (x : A). P (f x)) xs
+all-mapped P f [] all = All-nil (λ x. P (f x))
+all-mapped P f (x ∷ xs) all =
+    All-cons (λ x. P (f x)) x xs (All-head P (f x) (map f xs) all) (all-mapped P f xs (All-tail P (f x) (map f xs) all))
 
 watched-keys : (document : Document) (keys : List MarkKey) → AreApartKeys keys →
     AreWatched document (map (watched document) keys)
@@ -83,7 +74,7 @@ watched-keys document (key ∷ keys) apart =
     record {
       each = All-cons (λ (mark : MarkChange). mark ≡ watched document mark.key) (watched document key)
           (map (watched document) keys) refl rest.each;
-      single = (others-from document key keys apart.0, rest.single);
+      single = (All-map (λ (mark : MarkChange). mark.key ≢ key) (watched document) keys apart.0, rest.single);
     }
 
 -- ---- lists of a few marks
@@ -104,10 +95,10 @@ own-watched document name = watched-keys document (own_keys name) (
 
 -- ---- the list of all marks
 
-abbrev pub keys_of_widgets : List Widget → List MarkKey
-keys_of_widgets widgets = flat_map (λ (widget : Widget). own_keys widget.name) widgets
+abbrev pub own_listed : List (List ℕ) → List MarkKey
+own_listed names = flat_map own_keys names
 
-abbrev pub keys_of_marks : List SharedMark → List MarkKey
+abbrev keys_of_marks : List SharedMark → List MarkKey
 keys_of_marks marks = map (λ (mark : SharedMark). shared_key mark.name) marks
 
 pub all-front : {A : Type 0} (P : A → Type 0) (xs ys : List A) → All P (xs ++ ys) → All P xs
@@ -119,67 +110,52 @@ pub all-back : {A : Type 0} (P : A → Type 0) (xs ys : List A) → All P (xs ++
 all-back P [] ys all = all
 all-back P (x ∷ xs) ys all = all-back P xs ys (All-tail P x (xs ++ ys) all)
 
--- a shared key is of no widget, and a widget's own ones are of none by another name
-shared-apart : (name : List ℕ) (widgets : List Widget) → AreApartFrom (shared_key name) (keys_of_widgets widgets)
-shared-apart name [] = All-nil (λ (other : MarkKey). other ≢ shared_key name)
-shared-apart name (widget ∷ widgets) =
-    let P : MarkKey → Type 0 = λ (other : MarkKey). other ≢ shared_key name in
-    All-cons P (insert_key widget.name) (current_key widget.name ∷ keys_of_widgets widgets)
-    (λ same. apart-shared name widget.name (sym same))
-    (All-cons P (current_key widget.name) (keys_of_widgets widgets)
-    (λ same. apart-others name widget.name (sym same)) (shared-apart name widgets))
+abbrev pub AreOthersThan : List ℕ → List (List ℕ) → Type 0
+AreOthersThan name names = AllByRecursion (λ (other : List ℕ). is_same name other ≡ false) names
 
-insert-apart : (name : List ℕ) (widgets : List Widget) →
-    AllByRecursion (λ (other : List ℕ). is_same name other ≡ false) (map (λ (widget : Widget). widget.name) widgets)
-    → AreApartFrom (insert_key name) (keys_of_widgets widgets)
-insert-apart name [] apart = All-nil (λ (other : MarkKey). other ≢ insert_key name)
-insert-apart name (widget ∷ widgets) apart =
-    let P : MarkKey → Type 0 = λ (other : MarkKey). other ≢ insert_key name in
-    All-cons P (insert_key widget.name) (current_key widget.name ∷ keys_of_widgets widgets)
-    differs
-    (All-cons P (current_key widget.name) (keys_of_widgets widgets) (apart-current widget.name name)
-    (insert-apart name widgets apart.1))
-  where
-    differs : insert_key widget.name ≡ insert_key name → ⊥
-    differs same =
-        (let is : false ≡ true = sym apart.0 ∙ ap (λ (key : MarkKey). is_same name key.name) same ∙ same-word name in
-        absurd (cc))
+-- a key of one name is none of other names
+same-key : (key : List ℕ → MarkKey) (name other : List ℕ) → ((n : List ℕ) → (key n).name ≡ n)
+    → is_same name other ≡ false → key other ≢ key name
+same-key key name other named differs same =
+    let names : other ≡ name = sym (named other) ∙ ap (λ (k : MarkKey). k.name) same ∙ named name in
+    absurd (true≢false (sym (ap (is_same name) names ∙ same-word name) ∙ differs))
 
-current-apart : (name : List ℕ) (widgets : List Widget) →
-    AllByRecursion (λ (other : List ℕ). is_same name other ≡ false) (map (λ (widget : Widget). widget.name) widgets)
-    → AreApartFrom (current_key name) (keys_of_widgets widgets)
-current-apart name [] apart = All-nil (λ (other : MarkKey). other ≢ current_key name)
-current-apart name (widget ∷ widgets) apart =
-    let P : MarkKey → Type 0 = λ (other : MarkKey). other ≢ current_key name in
-    All-cons P (insert_key widget.name) (current_key widget.name ∷ keys_of_widgets widgets)
-    (apart-kinds widget.name name)
-    (All-cons P (current_key widget.name) (keys_of_widgets widgets) differs
-    (current-apart name widgets apart.1))
-  where
-    differs : current_key widget.name ≡ current_key name → ⊥
-    differs same =
-        (let is : false ≡ true = sym apart.0 ∙ ap (λ (key : MarkKey). is_same name key.name) same ∙ same-word name in
-        absurd (cc))
+own-apart : (key : List ℕ → MarkKey) (name : List ℕ) (names : List (List ℕ)) →
+    ((other : List ℕ) → is_same name other ≡ false → insert_key other ≢ key name)
+    → ((other : List ℕ) → is_same name other ≡ false → current_key other ≢ key name)
+    → AreOthersThan name names → AreApartFrom (key name) (own_listed names)
+own-apart key name [] inserts currents apart = All-nil (λ (other : MarkKey). other ≢ key name)
+own-apart key name (other ∷ names) inserts currents apart =
+    let P : MarkKey → Type 0 = λ (o : MarkKey). o ≢ key name in
+    All-cons P (insert_key other) (current_key other ∷ own_listed names) (inserts other apart.0)
+    (All-cons P (current_key other) (own_listed names) (currents other apart.0)
+    (own-apart key name names inserts currents apart.1))
+
+pub insert-apart : (name : List ℕ) (names : List (List ℕ)) → AreOthersThan name names →
+    AreApartFrom (insert_key name) (own_listed names)
+insert-apart name names =
+    own-apart insert_key name names (λ other. same-key insert_key name other (λ n. refl))
+    (λ other _. apart-current other name)
+
+pub current-apart : (name : List ℕ) (names : List (List ℕ)) → AreOthersThan name names →
+    AreApartFrom (current_key name) (own_listed names)
+current-apart name names =
+    own-apart current_key name names (λ other _. apart-kinds other name)
+    (λ other. same-key current_key name other (λ n. refl))
 
 own-apart-marks : (key : MarkKey) (marks : List SharedMark) → ((name : List ℕ) → shared_key name ≢ key) →
     AreApartFrom key (keys_of_marks marks)
-own-apart-marks key [] apart = All-nil (λ (other : MarkKey). other ≢ key)
-own-apart-marks key (mark ∷ marks) apart =
-    All-cons (λ (other : MarkKey). other ≢ key) (shared_key mark.name) (keys_of_marks marks) (apart mark.name)
-    (own-apart-marks key marks apart)
+own-apart-marks key marks apart =
+    All-map (λ (other : MarkKey). other ≢ key) (λ (mark : SharedMark). shared_key mark.name) marks
+    (λ at mark within. apart (slice_index_or marks at mark).name)
 
 marks-apart-from : (name : List ℕ) (marks : List SharedMark) →
-    AllByRecursion (λ (other : List ℕ). is_same name other ≡ false) (map (λ (mark : SharedMark). mark.name) marks)
-    → AreApartFrom (shared_key name) (keys_of_marks marks)
+    AreOthersThan name (map (λ (mark : SharedMark). mark.name) marks) →
+    AreApartFrom (shared_key name) (keys_of_marks marks)
 marks-apart-from name [] apart = All-nil (λ (other : MarkKey). other ≢ shared_key name)
 marks-apart-from name (mark ∷ marks) apart =
     All-cons (λ (other : MarkKey). other ≢ shared_key name) (shared_key mark.name) (keys_of_marks marks)
-    differs (marks-apart-from name marks apart.1)
-  where
-    differs : shared_key mark.name ≡ shared_key name → ⊥
-    differs same =
-        (let is : false ≡ true = sym apart.0 ∙ ap (λ (key : MarkKey). is_same name key.name) same ∙ same-word name in
-        absurd (cc))
+    (same-key shared_key name mark.name (λ n. refl) apart.0) (marks-apart-from name marks apart.1)
 
 marks-apart : (marks : List SharedMark) → IsDistinct is_same (map (λ (mark : SharedMark). mark.name) marks) →
     AreApartKeys (keys_of_marks marks)
@@ -187,23 +163,22 @@ unfolding IsDistinct
 marks-apart [] apart = tt
 marks-apart (mark ∷ marks) apart = (marks-apart-from mark.name marks apart.0, marks-apart marks apart.1)
 
-all-apart : (widgets : List Widget) (marks : List SharedMark) →
-    IsDistinct is_same (map (λ (widget : Widget). widget.name) widgets) →
+all-apart : (names : List (List ℕ)) (marks : List SharedMark) → IsDistinct is_same names →
     IsDistinct is_same (map (λ (mark : SharedMark). mark.name) marks)
-    → AreApartKeys (keys_of_widgets widgets ++ keys_of_marks marks)
+    → AreApartKeys (own_listed names ++ keys_of_marks marks)
 unfolding IsDistinct
-all-apart [] marks names shared = marks-apart marks shared
-all-apart (widget ∷ widgets) marks names shared = (
-  All-cons (λ (other : MarkKey). other ≢ insert_key widget.name) (current_key widget.name)
-      (keys_of_widgets widgets ++ keys_of_marks marks) (apart-current widget.name widget.name)
-      (All-append (λ (other : MarkKey). other ≢ insert_key widget.name) (keys_of_widgets widgets) (keys_of_marks marks)
-      (insert-apart widget.name widgets names.0)
-      (own-apart-marks (insert_key widget.name) marks (λ name. apart-shared name widget.name))),
+all-apart [] marks distinct shared = marks-apart marks shared
+all-apart (name ∷ names) marks distinct shared = (
+  All-cons (λ (other : MarkKey). other ≢ insert_key name) (current_key name) (own_listed names ++ keys_of_marks marks)
+      (apart-current name name)
+      (All-append (λ (other : MarkKey). other ≢ insert_key name) (own_listed names) (keys_of_marks marks)
+      (insert-apart name names distinct.0)
+      (own-apart-marks (insert_key name) marks (λ other. apart-shared other name))),
   (
-    All-append (λ (other : MarkKey). other ≢ current_key widget.name) (keys_of_widgets widgets) (keys_of_marks marks)
-        (current-apart widget.name widgets names.0)
-        (own-apart-marks (current_key widget.name) marks (λ name. apart-others name widget.name)),
-    all-apart widgets marks names.1 shared,
+    All-append (λ (other : MarkKey). other ≢ current_key name) (own_listed names) (keys_of_marks marks)
+        (current-apart name names distinct.0)
+        (own-apart-marks (current_key name) marks (λ other. apart-others other name)),
+    all-apart names marks distinct.1 shared,
   ),
 )
 
@@ -211,39 +186,32 @@ pub listed-watched : (limits : LimitTable) (document : Document) → IsWellForme
     AreWatched document (map (watched document) (mark_keys document))
 listed-watched limits document formed =
     watched-keys document (mark_keys document)
-    (all-apart document.widgets document.marks formed.widget_names formed.mark_names)
+    (all-apart (window_names document) document.marks formed.widget_names formed.mark_names)
 
 -- a mark that isn't in the list of all isn't there
-no-widget : (name : List ℕ) (key : List ℕ → MarkKey) (widgets : List Widget) →
-    ((widget : Widget) → key widget.name ≢ key name → is_same widget.name name ≡ false)
-    → AllByRecursion (λ (widget : Widget). key widget.name ≢ key name) widgets
+abbrev IsOwnOther : MarkKey → List ℕ → Type 0
+IsOwnOther key name = (insert_key name ≢ key) × (current_key name ≢ key)
+
+own-others : (key : MarkKey) (names : List (List ℕ)) → AreApartFrom key (own_listed names) →
+    AllByRecursion (IsOwnOther key) names
+own-others key [] apart = tt
+own-others key (name ∷ names) apart =
+    let P : MarkKey → Type 0 = λ (other : MarkKey). other ≢ key in
+    let rest = All-tail P (insert_key name) (current_key name ∷ own_listed names) apart in (
+      (
+        All-head P (insert_key name) (current_key name ∷ own_listed names) apart,
+        All-head P (current_key name) (own_listed names) rest,
+      ),
+      own-others key names (All-tail P (current_key name) (own_listed names) rest),
+    )
+
+no-widget : (name : List ℕ) (key : MarkKey) → ((other : List ℕ) → IsOwnOther key other → is_same other name ≡ false) →
+    (widgets : List Widget) → AllByRecursion (IsOwnOther key) (map (λ (widget : Widget). widget.name) widgets)
     → find (λ (widget : Widget). is_same widget.name name) widgets ≡ None
-no-widget name key [] differs apart = refl
-no-widget name key (widget ∷ widgets) differs apart =
+no-widget name key differs [] apart = refl
+no-widget name key differs (widget ∷ widgets) apart =
     ap (λ b. if b then Some widget else find (λ (w : Widget). is_same w.name name) widgets)
-    (differs widget apart.0) ∙ no-widget name key widgets differs apart.1
-
-inserts-apart : (key : MarkKey) (widgets : List Widget) → AreApartFrom key (keys_of_widgets widgets) →
-    AllByRecursion (λ (widget : Widget). insert_key widget.name ≢ key) widgets
-inserts-apart key [] apart = tt
-inserts-apart key (widget ∷ widgets) apart =
-    let P : MarkKey → Type 0 = λ (other : MarkKey). other ≢ key in
-    let rest = current_key widget.name ∷ keys_of_widgets widgets in (
-      All-head P (insert_key widget.name) rest apart,
-      inserts-apart key widgets (All-tail P (current_key widget.name) (keys_of_widgets widgets)
-          (All-tail P (insert_key widget.name) rest apart)),
-    )
-
-currents-apart : (key : MarkKey) (widgets : List Widget) → AreApartFrom key (keys_of_widgets widgets) →
-    AllByRecursion (λ (widget : Widget). current_key widget.name ≢ key) widgets
-currents-apart key [] apart = tt
-currents-apart key (widget ∷ widgets) apart =
-    let P : MarkKey → Type 0 = λ (other : MarkKey). other ≢ key in
-    let rest = current_key widget.name ∷ keys_of_widgets widgets in
-    let tail = All-tail P (insert_key widget.name) rest apart in (
-      All-head P (current_key widget.name) (keys_of_widgets widgets) tail,
-      currents-apart key widgets (All-tail P (current_key widget.name) (keys_of_widgets widgets) tail),
-    )
+    (differs widget.name apart.0) ∙ no-widget name key differs widgets apart.1
 
 no-mark : (name : List ℕ) (marks : List SharedMark) → AreApartFrom (shared_key name) (keys_of_marks marks) →
     sought name marks ≡ None
@@ -260,21 +228,19 @@ pub listed-all : (document : Document) (key : MarkKey) →
     AreOthers key (map (watched document) (mark_keys document)) → mark_at document key ≡ None
 listed-all document key others =
     by-kind (λ key. AreApartFrom key (mark_keys document) → mark_at document key ≡ None)
-    (λ name apart. ap (option_map (λ (widget : Widget). widget.insert))
-    (no-widget name insert_key document.widgets (λ widget. other-name insert_key widget.name name)
-    (inserts-apart (insert_key name) document.widgets (front (insert_key name) apart))))
-    (λ name apart. ap (option_map (λ (widget : Widget). widget.current))
-    (no-widget name current_key document.widgets (λ widget. other-name current_key widget.name name)
-    (currents-apart (current_key name) document.widgets (front (current_key name) apart))))
+    (λ name apart. ap (option_map (λ (widget : Widget). widget.insert)) (no-widget name (insert_key name)
+    (λ other both. other-name insert_key other name both.0) document.widgets (front (insert_key name) apart)))
+    (λ name apart. ap (option_map (λ (widget : Widget). widget.current)) (no-widget name (current_key name)
+    (λ other both. other-name current_key other name both.1) document.widgets (front (current_key name) apart)))
     (λ name apart. no-mark name document.marks
-    (all-back (λ (other : MarkKey). other ≢ shared_key name) (keys_of_widgets document.widgets)
+    (all-back (λ (other : MarkKey). other ≢ shared_key name) (own_listed (window_names document))
     (keys_of_marks document.marks) apart))
-    key (from-others document key (mark_keys document) others)
+    key (all-mapped (λ (mark : MarkChange). mark.key ≢ key) (watched document) (mark_keys document) others)
   where
     front : (key : MarkKey) → AreApartFrom key (mark_keys document) →
-        AreApartFrom key (keys_of_widgets document.widgets)
-    front key apart = all-front (λ (other : MarkKey). other ≢ key) (keys_of_widgets document.widgets)
-        (keys_of_marks document.marks) apart
+        AllByRecursion (IsOwnOther key) (window_names document)
+    front key apart = own-others key (window_names document) (all-front (λ (other : MarkKey). other ≢ key)
+        (own_listed (window_names document)) (keys_of_marks document.marks) apart)
 
 -- ---- marks that are put
 
@@ -377,19 +343,15 @@ shared-put document name place key others =
 
 pub marks-put : (document : Document) (widget : Widget) (name : List ℕ) (place : Place) →
     HasMarksBut (watched document (mark_key widget name) ∷ []) document (with_mark document widget name place)
-marks-put document widget name place =
-    elim (is_same name (literal "insert")) as (λ b.
-    HasMarksBut (watched document (if b then insert_key widget.name
-    else (if is_same name (literal "current") then current_key widget.name else shared_key name)) ∷ []) document
-    (if b then with_insert document widget place
-    else (if is_same name (literal "current") then with_current document widget place
-    else with_shared document name place))) [
-      | true ↦ insert-put document widget place
-      | false ↦ elim (is_same name (literal "current")) as (λ b.
-          HasMarksBut (watched document (if b then current_key widget.name else shared_key name) ∷ []) document
-          (if b then with_current document widget place else with_shared document name place))
-          [ true ↦ current-put document widget place | false ↦ shared-put document name place ]
-    ]
+marks-put document widget name place = by (is_same name (literal "insert")) (is_same name (literal "current"))
+  where
+    by : (b c : Bool) → HasMarksBut (watched document (if b then insert_key widget.name
+        else (if c then current_key widget.name else shared_key name)) ∷ []) document
+        (if b then with_insert document widget place
+        else (if c then with_current document widget place else with_shared document name place))
+    by true c = insert-put document widget place
+    by false true = current-put document widget place
+    by false false = shared-put document name place
 
 -- ---- marks that are made
 
@@ -406,20 +368,15 @@ made-put document name offset key others =
 -- a name of no mark is none of a widget's own
 shared-named : (document : Document) (widget : Widget) (name : List ℕ) → place_named document widget name ≡ None →
     mark_key widget name ≡ shared_key name
-shared-named document widget name none =
-    elim (is_same name (literal "insert")) as (λ b. (if b then Some widget.insert
-    else (if is_same name (literal "current") then Some widget.current else sought name document.marks)) ≡ None →
-    (if b then insert_key widget.name
-    else (if is_same name (literal "current") then current_key widget.name else shared_key name))
-    ≡ shared_key name) [
-      | true ↦ λ no. absurd (none-some widget.insert (sym no))
-      | false ↦ elim (is_same name (literal "current")) as (λ b. (if b then Some widget.current
-          else sought name document.marks) ≡ None →
-          (if b then current_key widget.name else shared_key name) ≡ shared_key name) [
-            | true ↦ λ no. absurd (none-some widget.current (sym no))
-            | false ↦ λ _. refl
-          ]
-    ] none
+shared-named document widget name = by (is_same name (literal "insert")) (is_same name (literal "current"))
+  where
+    by : (b c : Bool) → (if b then Some widget.insert
+        else (if c then Some widget.current else sought name document.marks)) ≡ None
+        → (if b then insert_key widget.name else (if c then current_key widget.name else shared_key name))
+        ≡ shared_key name
+    by true c none = absurd (none-some widget.insert (sym none))
+    by false true none = absurd (none-some widget.current (sym none))
+    by false false none = refl
 
 marks-new : (limits : LimitTable) (document : Document) (widget : Widget) (name : List ℕ) (offset : ℕ) →
     mark_key widget name ≡ shared_key name

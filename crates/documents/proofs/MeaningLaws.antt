@@ -1,19 +1,20 @@
 -- What names mean to a widget, and the places of its words.
 use Rattle.documents.proofs.Common.{Part, ◌≡◌, ◌≢◌, ℕ, suc, [], ◌+◌, ◌-◌, ◌*◌, ◌<◌, ◌≤◌, true, false, List, refl, sym}
 use Rattle.documents.proofs.Common.{ap, ◌∙◌, arith, inl, inr, slice_get, is_some, option_and_then, unwrap_or, codes}
-use Rattle.documents.proofs.Common.{bytes_eq, nat_lt, if◌then◌else◌, position_from, false≢true, nat_tests}
-use Rattle.documents.proofs.Common.{get_or_from_slice_get, MOST_WIDGETS, Place, Content, SharedMarks, first_number}
-use Rattle.documents.proofs.Common.{number_of, known_marks, known_tags, own_place, shared_place, shown_mark, is_word}
-use Rattle.documents.proofs.Common.{MeanTheSame, shown_meanings, word_value, new_mark, index_fault, at_position}
-use Rattle.documents.proofs.Common.{literal, is_same, found_tag, Document, Parts, SharedMark, Widget, mark_of, placed}
-use Rattle.documents.proofs.Common.{widget_at, key_named, AreMarked, Stands, mark_number, mark_place, meanings}
-use Rattle.documents.proofs.Common.{place_of, tag_flags, tag_number, Gives, shown, shown_flags, view_end, view_start}
-use Rattle.documents.proofs.Common.{IfOk, Option, None, Some, Result, Ok, Err, option_map, get_or, ◌==◌, names_of}
+use Rattle.documents.proofs.Common.{bytes_eq, nat_lt, if◌then◌else◌, position_from, false≢true, nat_tests, Bool, ap₂}
+use Rattle.documents.proofs.Common.{Mark, get_or_from_slice_get, MOST_WIDGETS, Place, Content, SharedMarks}
+use Rattle.documents.proofs.Common.{first_number, number_of, known_marks, known_tags, own_place, shared_place}
+use Rattle.documents.proofs.Common.{shown_mark, is_word, MeanTheSame, shown_meanings, word_value, new_mark, index_fault}
+use Rattle.documents.proofs.Common.{at_position, literal, is_same, found_tag, Document, Parts, SharedMark, Widget}
+use Rattle.documents.proofs.Common.{mark_of, placed, widget_at, key_named, AreMarked, Stands, mark_number, mark_place}
+use Rattle.documents.proofs.Common.{meanings, place_of, tag_flags, tag_number, Gives, shown, shown_flags, view_end}
+use Rattle.documents.proofs.Common.{view_start, IfOk, Option, None, Some, Result, Ok, Err, option_map, get_or, ◌==◌}
+use Rattle.documents.proofs.Common.{names_of}
 use Rattle.std.specs.Str.{chars}
 use Rattle.index_grammar.specs.declared.faults.IndexFault.{IndexFault}
 use Rattle.text_index.proofs.MeaningLaws.{word_value-same}
 use Rattle.documents.proofs.PartsLaws.{Sits}
-use Rattle.documents.proofs.PlacedLaws.{found_mark, marked-there}
+use Rattle.documents.proofs.PlacedLaws.{found_mark, marked-there, there_is}
 use Rattle.documents.proofs.ViewLaws.{IsSeen, end-is, end_in, flags-is, part-found, shown-is, start-is, start_in}
 use Rattle.std.specs.FinMap as finite
 use Rattle.index_grammar.specs.declared.faults.IndexFault.TheVariants as index
@@ -28,6 +29,30 @@ unfolding chars
 current_bytes = refl
 
 -- ---- marks
+
+-- the number that a name has, by whether it is `insert` or `current`
+abbrev pub number_by : List Mark → ℕ → List ℕ → Bool → Bool → Option ℕ
+number_by marks slot word insert current =
+    if insert then Some (2 * slot) else (if current then Some (2 * slot + 1) else number_of word marks)
+
+pub known-is : (marks : List Mark) (slot : ℕ) (word : List ℕ) → known_marks marks slot word
+    ≡ number_by marks slot word (is_same word (literal "insert")) (is_same word (literal "current"))
+known-is marks slot word =
+    ap₂ (λ v w. number_by marks slot word (bytes_eq word v) (bytes_eq word w)) (sym insert_bytes) (sym current_bytes)
+
+-- the two marks of a widget's own
+module _ (parts : Parts) (document : Document) (place slot : ℕ) (sits : Sits parts document place slot) where
+  pub insert-there : finite.get parts.content.marks (2 * slot) ≡ Some (widget_at document place).insert
+  insert-there =
+      there_is (finite.get parts.content.marks (2 * slot)) sits.insert
+      ∙ ap Some (ap (λ n. mark_of parts.content.marks (2 * n)) (sym sits.number)
+      ∙ ap (λ (w : Widget). w.insert) (sym sits.widget))
+
+  pub current-there : finite.get parts.content.marks (2 * slot + 1) ≡ Some (widget_at document place).current
+  current-there =
+      there_is (finite.get parts.content.marks (2 * slot + 1)) sits.current
+      ∙ ap Some (ap (λ n. mark_of parts.content.marks (2 * n + 1)) (sym sits.number)
+      ∙ ap (λ (w : Widget). w.current) (sym sits.widget))
 
 own-shown : (start end number : ℕ) (found : Option Place) → nat_lt number first_number ≡ true → is_some found ≡ true
     → option_and_then (λ place. if nat_lt number first_number then Some (own_place start end place)
@@ -131,27 +156,18 @@ module _ (parts : Parts) (document : Document) (place slot : ℕ) (stands : Stan
   pub marks-mean : (word : List ℕ) → option_map (shown_mark part)
       (known_marks parts.marks.marks slot word) ≡ option_map (mark_place document widget) (mark_number document word)
   marks-mean word =
-      let shown_so : Option ℕ → Option (Option ℕ) = option_map (shown_mark part) in
-      let shared : Option ℕ = option_map (λ k. suc (suc k))
-      (position_from (λ (mark : SharedMark). is_same word mark.name) 0 document.marks) in
-      ap (λ w. shown_so (if bytes_eq word w then Some (2 * slot)
-      else (if bytes_eq word (codes "current") then Some (2 * slot + 1) else number_of word parts.marks.marks)))
-      (sym insert_bytes)
-      ∙ ap (λ w. shown_so (if bytes_eq word (literal "insert") then Some (2 * slot)
-      else (if bytes_eq word w then Some (2 * slot + 1) else number_of word parts.marks.marks))) (sym current_bytes)
-      ∙ elim (bytes_eq word (literal "insert")) as (λ b.
-      shown_so (if b then Some (2 * slot)
-      else (if bytes_eq word (literal "current") then Some (2 * slot + 1) else number_of word parts.marks.marks))
-      ≡ option_map (mark_place document widget) (if b then Some 0
-      else (if bytes_eq word (literal "current") then Some 1 else shared))) [
-        | true ↦ ap Some insert-shown
-        | false ↦ elim (bytes_eq word (literal "current")) as (λ b.
-            shown_so (if b then Some (2 * slot + 1) else number_of word parts.marks.marks)
-            ≡ option_map (mark_place document widget) (if b then Some 1 else shared)) [
-              | true ↦ ap Some current-shown
-              | false ↦ shared-shown-is word
-            ]
-      ]
+      ap (option_map (shown_mark part)) (known-is parts.marks.marks slot word)
+      ∙ by (is_same word (literal "insert")) (is_same word (literal "current"))
+    where
+      by : (insert current : Bool) → option_map (shown_mark part)
+          (number_by parts.marks.marks slot word insert current)
+          ≡ option_map (mark_place document widget) (if insert then Some 0
+          else (if current then Some 1
+          else option_map (λ k. suc (suc k))
+          (position_from (λ (mark : SharedMark). is_same word mark.name) 0 document.marks)))
+      by true current = ap Some insert-shown
+      by false true = ap Some current-shown
+      by false false = shared-shown-is word
 
   pub name-is : widget.name ≡ sits.seat.name
   name-is = ap (λ (w : Widget). w.name) sits.widget

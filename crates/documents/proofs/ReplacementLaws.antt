@@ -5,19 +5,19 @@ use Rattle.documents.proofs.Common.{Named, numbers_of, Tags, MOST_CHARS, Place, 
 use Rattle.documents.proofs.Common.{clipped, removed_span, replaced_span, State, SlottedText, replaced-kept, Answer}
 use Rattle.documents.proofs.Common.{Empty, Fault, Memory, excess, length_replaced, Pair, all_names, total, with_names}
 use Rattle.documents.proofs.Common.{recording_of, piece_of, replace_span, replaced, with_clipped, Document, Parts}
-use Rattle.documents.proofs.Common.{Widget, document_of, mark_of, widget_at, with_texts, without_span, Stands}
-use Rattle.documents.proofs.Common.{with_insert, Change, false, refused, insertion_offset, is_idle, tags_with, Content}
-use Rattle.documents.proofs.Common.{None, Option, Result, Some, option_map, edited, Action, [], ◌∷◌, insertion}
-use Rattle.documents.proofs.Common.{deletion, joined_text, characters, names_of, IsKnownPiece}
+use Rattle.documents.proofs.Common.{Widget, document_of, widget_at, with_texts, without_span, Stands, with_insert}
+use Rattle.documents.proofs.Common.{Change, false, refused, insertion_offset, is_idle, tags_with, Content, None, Option}
+use Rattle.documents.proofs.Common.{Result, Some, option_map, edited, Action, [], ◌∷◌, insertion, deletion, joined_text}
+use Rattle.documents.proofs.Common.{characters, names_of, IsKnownPiece}
 use Rattle.edit_ops.specs.Removals.{with_mark}
 use Rattle.edit_ops.proofs.ReplaceLaws.{found-within}
 use Rattle.documents.proofs.ChangeLaws.{Leaves, does-changed}
 use Rattle.documents.proofs.InsertionLaws.{IsListed, IsWithin, count-made, excess-none, few_enough, limits-made}
 use Rattle.documents.proofs.InsertionLaws.{limits-refused, ready, with_tags}
 use Rattle.documents.proofs.MarkLaws.{leaves-insert}
+use Rattle.documents.proofs.MeaningLaws.{insert-there}
 use Rattle.documents.proofs.NamedLaws.{keyed_piece, total-pieces}
 use Rattle.documents.proofs.PartsLaws.{Sits, cells-kept, pairs_of, sits, widget-is}
-use Rattle.documents.proofs.PlacedLaws.{there_is}
 use Rattle.documents.proofs.StateLaws.{length-span, length-texts, stands-span, stands-texts, state_in, with_state}
 use Rattle.documents.proofs.ViewLaws.{IsSeen, active-found, ends-found, length-found, start-found-is}
 use Rattle.std.specs.FinMap as finite
@@ -31,14 +31,6 @@ done_well = Ok Empty
 
 well-done : done_well ≢ Err Memory
 well-done is = cc
-
--- where the widget's own first mark stands
-pub insert-there : (parts : Parts) (document : Document) (place slot : ℕ) → Sits parts document place slot →
-    finite.get parts.content.marks (2 * slot) ≡ Some (widget_at document place).insert
-insert-there parts document place slot sits =
-    there_is (finite.get parts.content.marks (2 * slot)) sits.insert
-    ∙ ap Some (ap (λ n. mark_of parts.content.marks (2 * n)) (sym sits.number)
-    ∙ ap (λ (w : Widget). w.insert) (sym sits.widget))
 
 pub stands-clipped : (limits : LimitTable) (parts : Parts) (document : Document) (place slot : ℕ) (widget : Widget)
     (found : Option Place) → Stands parts document → Sits parts document place slot

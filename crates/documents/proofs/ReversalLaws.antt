@@ -15,8 +15,9 @@ use Rattle.documents.proofs.Common.{AreScalars, known-shared, Box, IsSome, Delta
 use Rattle.documents.proofs.BackLaws.{group-replays, group-done}
 use Rattle.edit_ops.proofs.ReplayLaws.{back-end, stood-within}
 use Rattle.documents.proofs.ChangeLaws.{Leaves, does-changed}
+use Rattle.documents.proofs.MeaningLaws.{insert-there}
 use Rattle.documents.proofs.PartsLaws.{Sits, sits}
-use Rattle.documents.proofs.ReplacementLaws.{insert-there, name-stays, sits-yet, stands-clipped}
+use Rattle.documents.proofs.ReplacementLaws.{name-stays, sits-yet, stands-clipped}
 use Rattle.documents.proofs.StateLaws.{keys-put, stands-out, stands-put, state_in, with_log, with_state}
 use Rattle.documents.proofs.ViewLaws.{counted}
 use Rattle.documents.proofs.WellFormedLaws.{fits-kept}

@@ -3,14 +3,14 @@ use Rattle.documents.proofs.Common.{◌≡◌, ◌≢◌, ℕ, zero, suc, ◌+�
 use Rattle.documents.proofs.Common.{◌++◌, length, map, get_or, refl, sym, ap, ap₂, subst, ◌∙◌, true≢false, arith}
 use Rattle.documents.proofs.Common.{slice_get, is_some, unwrap_or, IfSome, All, AllByRecursion, replicate}
 use Rattle.documents.proofs.Common.{length-append, length-set, map-append, get_or-set_other, All-append, All-replicate}
-use Rattle.documents.proofs.Common.{All-set, get_or-set_at, MOST_WIDGETS, Place, Content, Marks, LimitTable}
-use Rattle.documents.proofs.Common.{IsLineStart, lines, FitsText, limit_of, Kept, Contains-from_stands, AreNames}
-use Rattle.documents.proofs.Common.{IsLeastFree, Named, Names, numbers_of, first_number, AreAnchored, Anchors, new_mark}
-use Rattle.documents.proofs.Common.{with_own_marks, is_among, history_under, is_behind, Settings, Document, Journal}
-use Rattle.documents.proofs.Common.{Parts, Widget, characters, document_of, mark_of, placed, whole, widget_of}
-use Rattle.documents.proofs.Common.{HasOwnMarks, IsSeated, IsSound, Stands, is_window_name, AreLines, anchor_at}
-use Rattle.documents.proofs.Common.{IsLonger, IsWellFormedDocument, window_names, new_widget, with_peer, option_map}
-use Rattle.documents.proofs.Common.{Some, None, Option, keyed-seated, known-seated, characters-keyed, AreSeats-names}
+use Rattle.documents.proofs.Common.{All-set, get_or-set_at, Place, Content, Marks, LimitTable, IsLineStart, lines}
+use Rattle.documents.proofs.Common.{FitsText, limit_of, Kept, Contains-from_stands, AreNames, Named, Names, numbers_of}
+use Rattle.documents.proofs.Common.{first_number, AreAnchored, Anchors, new_mark, with_own_marks, is_among}
+use Rattle.documents.proofs.Common.{history_under, is_behind, Settings, Document, Journal, Parts, Widget, characters}
+use Rattle.documents.proofs.Common.{document_of, mark_of, placed, whole, widget_of, HasOwnMarks, IsSeated, IsSound}
+use Rattle.documents.proofs.Common.{Stands, is_window_name, AreLines, anchor_at, IsLonger, IsWellFormedDocument}
+use Rattle.documents.proofs.Common.{window_names, new_widget, with_peer, option_map, Some, None, Option, keyed-seated}
+use Rattle.documents.proofs.Common.{known-seated, characters-keyed, AreSeats-names, IsSeatPut}
 use Rattle.name_list.specs.Names.{place_of}
 use Rattle.documents.proofs.FindLaws.{widget-among}
 use Rattle.documents.proofs.JournalLaws.{fits-under, orderly-under, with_kept}
@@ -20,27 +20,21 @@ use Rattle.documents.proofs.PartsLaws.{characters-kept, marks-kept, pairs_of, ta
 use Rattle.documents.proofs.PlacedLaws.{marked-alike, placed-alike}
 use Rattle.documents.proofs.ViewLaws.{counted}
 use Rattle.documents.proofs.WellFormedLaws.{IsWellFormedDocument-kept, fits-kept}
-use Rattle.documents.proofs.WidgetLaws.{journal_set, line_anchor, lines-anchored}
+use Rattle.documents.proofs.WidgetLaws.{journal_set, line_anchor, lines-anchored, seats-set}
 use Rattle.std.specs.FinMap as finite
 use Rattle.text_model.specs.Content as model
 
 -- what became of the fields
 pub record IsSeatMade (old : Parts) (before after : Kept) (name : List ℕ) (slot : ℕ) (settings : Settings)
-    (seats : Names) (disabled : List Bool) (anchors : List Anchors) (own : Anchors) (content : Content) : Type 0 where
+    (seats : Names) (own : Anchors) (content : Content) : Type 0 where
   pub named : is_window_name name ≡ true
-  pub sound : AreNames seats
-  pub seats_is : seats ≡ record old.seats { entries = old.seats.entries ++ record { name = name; number = slot } ∷ [] }
-  pub fresh : IsLeastFree (numbers_of old.seats.entries) slot
-  pub below : slot < MOST_WIDGETS
-  pub disabled_longer : IsLonger false old.journal.disabled disabled
-  pub anchors_longer : IsLonger whole old.journal.anchors anchors
-  pub flagged : slot < length disabled
-  pub anchored : slot < length anchors
+  pub put : IsSeatPut name (unwrap_or own.start 0) old.seats seats old.content content slot
+  pub flagged : slot < length old.journal.disabled
+  pub anchored : slot < length old.journal.anchors
   pub own_is : own ≡ record {
     start = line_anchor (model.characters old.content.cells) settings.start;
     end = line_anchor (model.characters old.content.cells) settings.end;
   }
-  pub content_is : content ≡ with_own_marks slot (record new_mark { offset = unwrap_or own.start 0 }) old.content
   pub history : after.history ≡ history_under settings.document before.history
   pub modified : after.modified ≡ before.modified
   pub most : after.most ≡ limit_of settings.document.most_undo
@@ -121,70 +115,47 @@ same-widget old new places slot mark seat apart anchors disabled =
       current = current i;
     }
 
-same-widgets : (old : Journal) (places : Marks) (slot : ℕ) (mark : Place) (disabled : List Bool)
-    (anchors : List Anchors) (settings : Settings) (own : Anchors) (kept : Kept) (seats : List Named)
-    → IsLonger false old.disabled disabled → IsLonger whole old.anchors anchors →
-    AllByRecursion (λ (seat : Named). seat.number ≢ slot) seats →
-    AllByRecursion (IsSeated old.anchors old.disabled) seats
-    → map (widget_of (journal_set (record old { disabled = disabled; anchors = anchors }) slot settings own kept)
+same-widgets : (old : Journal) (places : Marks) (slot : ℕ) (mark : Place) (settings : Settings) (own : Anchors)
+    (kept : Kept) (seats : List Named) → AllByRecursion (λ (seat : Named). seat.number ≢ slot) seats
+    → map (widget_of (journal_set old slot settings own kept)
     (finite.insert (finite.insert places (2 * slot) mark) (2 * slot + 1) mark)) seats
     ≡ map (widget_of old places) seats
-same-widgets old places slot mark disabled anchors settings own kept [] flags longer apart seated = refl
-same-widgets old places slot mark disabled anchors settings own kept (seat ∷ seats) flags longer apart seated =
-    let new = journal_set (record old { disabled = disabled; anchors = anchors }) slot settings own kept in
-    let there = get_or-set_other anchors slot seat.number own whole apart.0
-    ∙ longer-at whole old.anchors anchors seat.number whole longer seated.0.anchored in
-    let flag = get_or-set_other disabled slot seat.number settings.disabled false apart.0
-    ∙ longer-at false old.disabled disabled seat.number false flags seated.0.flagged in
-    ap₂ (λ (w : Widget) ws. w ∷ ws) (same-widget old new places slot mark seat apart.0 there flag)
-    (same-widgets old places slot mark disabled anchors settings own kept seats flags longer apart.1 seated.1)
-
-seated-longer : (old : Journal) (disabled : List Bool) (anchors : List Anchors) (slot : ℕ) (flag : Bool) (own : Anchors)
-    (seats : List Named) → IsLonger false old.disabled disabled → IsLonger whole old.anchors anchors
-    → AllByRecursion (IsSeated old.anchors old.disabled) seats →
-    AllByRecursion (IsSeated (set anchors slot own) (set disabled slot flag)) seats
-seated-longer old disabled anchors slot flag own [] flags longer seated = tt
-seated-longer old disabled anchors slot flag own (seat ∷ seats) flags longer seated =
-    let one = seated.0.anchored in
-    let two = seated.0.flagged in
-    let more = longer-length whole old.anchors anchors longer in
-    let most = longer-length false old.disabled disabled flags in (
-      record {
-        anchored = omega (arith, one, more, length-set anchors slot own);
-        flagged = omega (arith, two, most, length-set disabled slot flag);
-      },
-      seated-longer old disabled anchors slot flag own seats flags longer seated.1,
-    )
+same-widgets old places slot mark settings own kept [] apart = refl
+same-widgets old places slot mark settings own kept (seat ∷ seats) apart =
+    ap₂ (λ (w : Widget) ws. w ∷ ws)
+    (same-widget old (journal_set old slot settings own kept) places slot mark seat apart.0
+    (get_or-set_other old.anchors slot seat.number own whole apart.0)
+    (get_or-set_other old.disabled slot seat.number settings.disabled false apart.0))
+    (same-widgets old places slot mark settings own kept seats apart.1)
 
 -- ---- all of it
 
-abbrev seated_parts : Parts → Kept → List ℕ → ℕ → Settings → List Bool → List Anchors → Anchors → Parts
-seated_parts old after name slot settings disabled anchors own = record {
+abbrev seated_parts : Parts → Kept → List ℕ → ℕ → Settings → Anchors → Parts
+seated_parts old after name slot settings own = record {
   seats = record old.seats { entries = old.seats.entries ++ record { name = name; number = slot } ∷ [] };
   tags = old.tags;
   marks = old.marks;
-  journal = journal_set (record old.journal { disabled = disabled; anchors = anchors }) slot settings own after;
+  journal = journal_set old.journal slot settings own after;
   content = with_own_marks slot (record new_mark { offset = unwrap_or own.start 0 }) old.content;
 }
 
 -- what holds of a document at any time holds then, the widgets are those before and one more
 seated-sound : (old : Parts) (before after : Kept) (document : Document) (name : List ℕ) (slot : ℕ)
-    (settings : Settings) (seats : Names) (disabled : List Bool) (anchors : List Anchors) (own : Anchors)
-    (content : Content)
+    (settings : Settings) (seats : Names) (own : Anchors) (content : Content)
     → Stands (with_kept old before) document → AreLines (lines (characters document.cells)) settings →
     is_behind settings.start settings.end ≡ false
-    → IsSeatMade old before after name slot settings seats disabled anchors own content →
-    IsSound (seated_parts old after name slot settings disabled anchors own)
-seated-sound old before after document name slot settings seats disabled anchors own content stands are ordered made =
-    let new : Parts = seated_parts old after name slot settings disabled anchors own in
+    → IsSeatMade old before after name slot settings seats own content →
+    IsSound (seated_parts old after name slot settings own)
+seated-sound old before after document name slot settings seats own content stands are ordered made =
+    let new : Parts = seated_parts old after name slot settings own in
     let text = model.characters old.content.cells in
     let mark : Place = record new_mark { offset = unwrap_or own.start 0 } in
     let seat : Named = record { name = name; number = slot } in
     let one = finite.insert old.content.marks (2 * slot) mark in
-    let less = made.below in
+    let less = made.put.below in
     let low : 2 * slot < first_number = omega (arith, less) in
     let low_too : 2 * slot + 1 < first_number = omega (arith, less) in
-    let sound : AreNames new.seats = subst AreNames made.seats_is made.sound in
+    let sound : AreNames new.seats = subst AreNames made.put.last made.put.sound in
     let limit = stands.sound.kept.slots in
     let seated = AreSeats-names new.seats sound (omega (arith, limit)) in
     let own_stand = own-within (with_kept old before) document settings own stands are ordered made.own_is in
@@ -222,16 +193,13 @@ seated-sound old before after document name slot settings seats disabled anchors
       marked = record { marks = marked.marks; roomy = marked.roomy; each = both };
       orderly = orderly-under settings.document new.journal before after made.history made.most;
       views = record {
-        anchored = All-set (AreAnchored text) anchors slot own stand
-            (longer-all (AreAnchored text) whole old.journal.anchors anchors made.anchors_longer
-            (record { start = tt; end = tt; ordered = omega arith }) stands.sound.views.anchored);
+        anchored = All-set (AreAnchored text) old.journal.anchors slot own stand stands.sound.views.anchored;
         seated = all-append (IsSeated new.journal.anchors new.journal.disabled) old.seats.entries (seat ∷ [])
-            (seated-longer old.journal disabled anchors slot settings.disabled own old.seats.entries
-            made.disabled_longer made.anchors_longer stands.sound.views.seated) (
+            (seats-set old.journal slot settings own after old.seats.entries stands.sound.views.seated) (
               (let a = made.anchored in let f = made.flagged in
                   record {
-                    anchored = omega (arith, a, length-set anchors slot own);
-                    flagged = omega (arith, f, length-set disabled slot settings.disabled);
+                    anchored = omega (arith, a, length-set old.journal.anchors slot own);
+                    flagged = omega (arith, f, length-set old.journal.disabled slot settings.disabled);
                   }),
               tt,
             );
@@ -240,33 +208,32 @@ seated-sound old before after document name slot settings seats disabled anchors
 
 -- the document is the one before, with a widget more
 seated-is : (old : Parts) (before after : Kept) (name : List ℕ) (slot : ℕ) (settings : Settings) (seats : Names)
-    (disabled : List Bool) (anchors : List Anchors) (own : Anchors) (content : Content)
-    → IsSound (with_kept old before) → IsSound (seated_parts old after name slot settings disabled anchors own) →
-    IsSeatMade old before after name slot settings seats disabled anchors own content
-    → document_of (seated_parts old after name slot settings disabled anchors own)
+    (own : Anchors) (content : Content)
+    → IsSound (with_kept old before) → IsSound (seated_parts old after name slot settings own) →
+    IsSeatMade old before after name slot settings seats own content
+    → document_of (seated_parts old after name slot settings own)
     ≡ with_peer name settings (document_of (with_kept old before))
-seated-is old before after name slot settings seats disabled anchors own content sound new_sound made =
+seated-is old before after name slot settings seats own content sound new_sound made =
     let parts : Parts = with_kept old before in
-    let new : Parts = seated_parts old after name slot settings disabled anchors own in
+    let new : Parts = seated_parts old after name slot settings own in
     let lone : Document = document_of parts in
     let places = old.content.marks in
     let mark : Place = record new_mark { offset = unwrap_or own.start 0 } in
     let one = finite.insert places (2 * slot) mark in
     let seat : Named = record { name = name; number = slot } in
-    let less = made.below in
+    let less = made.put.below in
     let same : model.characters old.content.cells
     ≡ characters lone.cells = sym (characters-keyed (pairs_of parts) old.content.cells) in
     let cells = keyed-seated old.seats.entries (seat ∷ []) old.tags old.content.cells sound.kept.seats
     new_sound.kept.seats sound.kept.tags sound.kept.known in
     let apart = free-apart old.seats.entries slot (λ at is.
-    made.fresh.free (Contains-from_stands (numbers_of old.seats.entries) slot (at, is))) in
-    let others = same-widgets old.journal places slot mark disabled anchors settings own after old.seats.entries
-    made.disabled_longer made.anchors_longer apart sound.views.seated in
-    let there = get_or-set_at anchors slot slot own whole refl made.anchored in
-    let flag = get_or-set_at disabled slot slot settings.disabled false refl made.flagged in
-    let start : (get_or (set anchors slot own) slot whole).start ≡ option_map (anchor_at lone) settings.start =
+    made.put.least.free (Contains-from_stands (numbers_of old.seats.entries) slot (at, is))) in
+    let others = same-widgets old.journal places slot mark settings own after old.seats.entries apart in
+    let there = get_or-set_at old.journal.anchors slot slot own whole refl made.anchored in
+    let flag = get_or-set_at old.journal.disabled slot slot settings.disabled false refl made.flagged in
+    let start : (get_or (set old.journal.anchors slot own) slot whole).start ≡ option_map (anchor_at lone) settings.start =
     ap (λ (a : Anchors). a.start) (there ∙ made.own_is) ∙ ap (λ t. line_anchor t settings.start) same in
-    let end : (get_or (set anchors slot own) slot whole).end ≡ option_map (anchor_at lone) settings.end =
+    let end : (get_or (set old.journal.anchors slot own) slot whole).end ≡ option_map (anchor_at lone) settings.end =
     ap (λ (a : Anchors). a.end) (there ∙ made.own_is) ∙ ap (λ t. line_anchor t settings.end) same in
     let own_start : own.start ≡ option_map (anchor_at lone) settings.start = ap (λ (a : Anchors). a.start) made.own_is
     ∙ ap (λ t. line_anchor t settings.start) same in
@@ -308,31 +275,26 @@ seated-is old before after name slot settings seats disabled anchors own content
     }
 
 -- what the fields give
-pub record Seats (old : Parts) (new : Parts) (document : Document) (name : List ℕ) (settings : Settings) : Type 0 where
+pub record Seats (new : Parts) (document : Document) (name : List ℕ) (settings : Settings) : Type 0 where
   pub sound : IsSound new
   pub is : document_of new ≡ with_peer name settings document
   pub formed : (limits : LimitTable) → IsWellFormedDocument limits document →
       IsWellFormedDocument limits (document_of new)
 
 pub seated-made : {old : Parts} {before after : Kept} {document : Document} {name : List ℕ} {slot : ℕ}
-    {settings : Settings} {seats : Names} {disabled : List Bool} {anchors : List Anchors} {own : Anchors}
-    {content : Content} → IsSeatMade old before after name slot settings seats disabled anchors own content
-    → Stands (with_kept old before) document → AreLines (lines (characters document.cells)) settings →
-    is_behind settings.start settings.end ≡ false
-    → Seats old (record {
+    {settings : Settings} {seats : Names} {own : Anchors} {content : Content}
+    → IsSeatMade old before after name slot settings seats own content → Stands (with_kept old before) document →
+    AreLines (lines (characters document.cells)) settings → is_behind settings.start settings.end ≡ false
+    → Seats (record old {
       seats = seats;
-      tags = old.tags;
-      marks = old.marks;
-      journal = journal_set (record old.journal { disabled = disabled; anchors = anchors }) slot settings own after;
+      journal = journal_set old.journal slot settings own after;
       content = content;
     }) document name settings
-seated-made {old} {before} {after} {document} {name} {slot} {settings} {seats} {disabled} {anchors} {own} {content} made
-    stands are ordered =
+seated-made {old} {before} {after} {document} {name} {slot} {settings} {seats} {own} {content} made stands are ordered =
     let parts : Parts = with_kept old before in
-    let new : Parts = seated_parts old after name slot settings disabled anchors own in
-    let sound = seated-sound old before after document name slot settings seats disabled anchors own content stands are
-    ordered made in
-    let is = seated-is old before after name slot settings seats disabled anchors own content stands.sound sound made in
+    let new : Parts = seated_parts old after name slot settings own in
+    let sound = seated-sound old before after document name slot settings seats own content stands are ordered made in
+    let is = seated-is old before after name slot settings seats own content stands.sound sound made in
     let fits : (limits : LimitTable) → IsWellFormedDocument limits document →
     IsWellFormedDocument limits (document_of new) = λ limits formed.
     let few = formed.tag_count in
@@ -344,15 +306,10 @@ seated-made {old} {before} {after} {document} {name} {slot} {settings} {seats} {
     (fits-under limits.chars settings.document before.history (model.characters old.content.cells)
     (fits-kept limits parts document stands.is formed)))
     (omega (arith, few, tags)) (omega (arith, many, marks)) in
-    subst (λ (f : Names × Content).
-    Seats old (record {
-      seats = f.0;
-      tags = old.tags;
-      marks = old.marks;
-      journal = journal_set (record old.journal { disabled = disabled; anchors = anchors }) slot settings own after;
-      content = f.1;
-    }) document name settings)
-    (λ i. (sym made.seats_is i, sym made.content_is i))
+    subst (λ (p : Parts). Seats p document name settings) (λ i. record new {
+      seats = sym made.put.last i;
+      content = sym made.put.store i;
+    })
     (record { sound = sound; is = is ∙ ap (with_peer name settings) stands.is; formed = fits })
 
 -- ---- a widget that isn't made
@@ -386,25 +343,14 @@ longer-seated old disabled anchors (seat ∷ seats) flags longer seated =
       longer-seated old disabled anchors seats flags longer seated.1,
     )
 
--- longer lists are all that is left of it
-pub unseated : {old : Parts} {document : Document} {seats : Names} {disabled : List Bool} {anchors : List Anchors}
-    {content : Content} → Stands old document → seats ≡ old.seats → IsLonger false old.journal.disabled disabled
-    → IsLonger whole old.journal.anchors anchors → content ≡ old.content
-    → Stands (record old {
-      seats = seats;
-      journal = record old.journal { disabled = disabled; anchors = anchors };
-      content = content;
-    }) document
-unseated {old} {document} {seats} {disabled} {anchors} {content} stands names flags longer same =
-    let new : Parts = record old { journal = record old.journal { disabled = disabled; anchors = anchors } } in
+-- the document is the same where the lists by slot are longer
+pub stands-longer : {old : Parts} {document : Document} {disabled : List Bool} {anchors : List Anchors} →
+    Stands old document → IsLonger false old.journal.disabled disabled → IsLonger whole old.journal.anchors anchors
+    → Stands (record old { journal = record old.journal { disabled = disabled; anchors = anchors } }) document
+stands-longer {old} {document} {disabled} {anchors} stands flags longer =
     let widgets = longer-widgets old.journal old.content.marks disabled anchors old.seats.entries flags longer
     stands.sound.views.seated in
-    subst (λ (f : Names × Content).
-    Stands (record old {
-      seats = f.0;
-      journal = record old.journal { disabled = disabled; anchors = anchors };
-      content = f.1;
-    }) document) (λ i. (sym names i, sym same i)) (record {
+    record {
       sound = record {
         kept = stands.sound.kept;
         marked = stands.sound.marked;
@@ -419,8 +365,8 @@ unseated {old} {document} {seats} {disabled} {anchors} {content} stands names fl
           seated = longer-seated old.journal disabled anchors old.seats.entries flags longer stands.sound.views.seated;
         };
       };
-      is = (λ i. record (document_of new) { widgets = widgets i }) ∙ stands.is;
-    })
+      is = (λ i. record (document_of old) { widgets = widgets i }) ∙ stands.is;
+    }
 
 -- no seat has a name that no window has
 pub unnamed : (parts : Parts) (document : Document) (name : List ℕ) → Stands parts document →

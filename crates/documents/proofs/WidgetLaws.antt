@@ -135,7 +135,7 @@ journal_set journal slot settings anchors kept = record {
   log = log_of kept;
 }
 
-seats-set : (journal : Journal) (slot : ℕ) (settings : Settings) (anchors : Anchors) (kept : Kept) (seats : List Named)
+pub seats-set : (journal : Journal) (slot : ℕ) (settings : Settings) (anchors : Anchors) (kept : Kept) (seats : List Named)
     → AllByRecursion (IsSeated journal.anchors journal.disabled) seats
     → AllByRecursion (IsSeated (journal_set journal slot settings anchors kept).anchors
     (journal_set journal slot settings anchors kept).disabled) seats

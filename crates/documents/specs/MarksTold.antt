@@ -92,7 +92,7 @@ own_keys name = record { kind = Insert; name = name } ∷ record { kind = Curren
 
 abbrev pub mark_keys : Document → List MarkKey
 mark_keys document =
-    flat_map (λ (widget : Widget). own_keys widget.name) document.widgets
+    flat_map own_keys (window_names document)
     ++ map (λ (mark : SharedMark). record { kind = Shared; name = mark.name }) document.marks
 
 -- the mark that a widget knows by a name

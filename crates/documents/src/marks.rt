@@ -6,7 +6,6 @@ ghost use Rattle.text_model.specs.LimitTable.{LimitTable};
 ghost use Rattle.documents.specs.Documents.{widget_at};
 ghost use Rattle.documents.specs.Views.{shown};
 ghost use Rattle.documents.specs.Promise.{Does, answered};
-ghost use Rattle.command_effects.specs.declared.answers.Fault.TheVariants.{Memory};
 ghost use Rattle.tcl_words.specs.ListText.{list_text};
 ghost use Rattle.tcl_words.specs.Unread.{texts_of};
 ghost use Rattle.mark_table.specs.Order.{next_mark, previous_mark, rank_of};
@@ -15,19 +14,19 @@ ghost use Rattle.documents.specs.Names.{mark_number, mark_place};
 ghost use Rattle.mark_table.specs.Order.{origin_in};
 ghost use Rattle.command_effects.specs.Marking.{gravity_word as spec_gravity_word};
 ghost use Rattle.documents.specs.Marks.{mark_names, mark_offset, mark_unset, place_named, set_found, usable_marks};
-ghost use Rattle.documents.specs.Marks.{with_current, with_insert, with_mark, with_shared};
+ghost use Rattle.documents.specs.Marks.{with_mark};
 
 use crate::documents::Document;
 use crate::listing::push_mark_names;
 use crate::views::mark_view_of;
 use command_effects::{
     Answer, Fault, gravity_word, is_word, make_mark, numbers_named, put_mark, take_marks,
-    turn_mark, unset_names,
+    unset_names,
 };
 use mark_table::{Origin, WidgetMark};
 use std::alloc::AllocError;
 use text_index::Names;
-use text_model::{Gravity, Limits, MarkNo, Place, TagSlot, Text, TextStore};
+use text_model::{Gravity, Limits, Place, TagSlot, Text, TextStore};
 
 /// From where a mark is asked for, counted from the start of the text: a place of a view moves by the view's start.
 fn origin_in(start: usize, origin: Origin) -> Origin
@@ -78,19 +77,12 @@ impl<S: TextStore> Document<S> {
         ensures value { result ≡ place_named self.now (widget_at self.now seat) (chars name.now) }
         ensures within { IfSome result (λ place. place.offset ≤ length self.now.cells) }
     {
-        if is_word(name, "insert") {
-            return self
-                .text
-                .store
-                .mark_place(MarkNo(2 * self.seats.number(seat)));
-        }
-        if is_word(name, "current") {
-            return self
-                .text
-                .store
-                .mark_place(MarkNo(2 * self.seats.number(seat) + 1));
-        }
-        self.text.store.mark_place(self.marks.find(name)?)
+        let names = Names {
+            tags: &self.tags,
+            marks: &self.marks,
+            widget: TagSlot(self.seats.number(seat)),
+        };
+        self.text.store.mark_place(names.mark(name)?)
     }
 
     /// The offset for a mark of a name at a place: of the widget's own, the end is the last character.
@@ -167,64 +159,6 @@ impl<S: TextStore> Document<S> {
 }
 
 impl<S: TextStore> Document<S> {
-    /// Moves the widget's `insert` to a place.
-    fn put_insert(&mut self, seat: usize, place: Place) -> Result<Answer, Fault>
-        requires shown { seat < length self.old.widgets }
-        requires stands { place.offset ≤ length self.old.cells }
-        ensures { (limits : LimitTable) → Does limits self.old self.new result
-            (answered (with_insert self.old (widget_at self.old seat) place) Empty) }
-    {
-        match put_mark(
-            self.alloc,
-            &mut self.text.store,
-            MarkNo(2 * self.seats.number(seat)),
-            place,
-        ) {
-            Err(_) => Err(Fault::Memory),
-            Ok(()) => Ok(Answer::Empty),
-        }
-    }
-
-    /// Moves the widget's `current` to a place.
-    fn put_current(&mut self, seat: usize, place: Place) -> Result<Answer, Fault>
-        requires shown { seat < length self.old.widgets }
-        requires stands { place.offset ≤ length self.old.cells }
-        ensures { (limits : LimitTable) → Does limits self.old self.new result
-            (answered (with_current self.old (widget_at self.old seat) place) Empty) }
-    {
-        match put_mark(
-            self.alloc,
-            &mut self.text.store,
-            MarkNo(2 * self.seats.number(seat) + 1),
-            place,
-        ) {
-            Err(_) => Err(Fault::Memory),
-            Ok(()) => Ok(Answer::Empty),
-        }
-    }
-
-    /// Moves the shared mark of a name to a place, if there is one.
-    fn put_shared(&mut self, name: &str, place: Place) -> Result<Answer, Fault>
-        requires { place.offset ≤ length self.old.cells }
-        ensures { (limits : LimitTable) → Does limits self.old self.new result
-            (answered (with_shared self.old (chars name.now) place) Empty) }
-    {
-        let Some(number) = self.marks.find(name) else {
-            return Ok(Answer::Empty);
-        };
-        match turn_mark(
-            self.alloc,
-            &mut self.marks,
-            &mut self.text.store,
-            name,
-            number,
-            place,
-        ) {
-            Err(_) => Err(Fault::Memory),
-            Ok(()) => Ok(Answer::Empty),
-        }
-    }
-
     /// Moves the mark of a name to a place, if there is one.
     pub fn put_mark(&mut self, seat: usize, name: &str, place: Place) -> Result<Answer, Fault>
         requires shown { seat < length self.old.widgets }
@@ -232,13 +166,18 @@ impl<S: TextStore> Document<S> {
         ensures { (limits : LimitTable) → Does limits self.old self.new result
             (answered (with_mark self.old (widget_at self.old seat) (chars name.now) place) Empty) }
     {
-        if is_word(name, "insert") {
-            self.put_insert(seat, place)
-        } else if is_word(name, "current") {
-            self.put_current(seat, place)
-        } else {
-            self.put_shared(name, place)
-        }
+        let names = Names {
+            tags: &self.tags,
+            marks: &self.marks,
+            widget: TagSlot(self.seats.number(seat)),
+        };
+        let Some(number) = names.mark(name) else {
+            return Ok(Answer::Empty);
+        };
+        put_mark(self.alloc, &mut self.text.store, number, place)?;
+        // The widget's own marks aren't in the table.
+        let _ = self.marks.set_gravity(name, place.gravity);
+        Ok(Answer::Empty)
     }
 
     /// Makes a shared mark at an offset, with right gravity, unless there are too many.
@@ -294,16 +233,9 @@ impl<S: TextStore> Document<S> {
         let Some(old) = self.text.store.mark_place(number) else {
             unreachable!()
         };
-        let gravity = old.gravity;
-        match put_mark(
-            self.alloc,
-            &mut self.text.store,
-            number,
-            Place { offset, gravity },
-        ) {
-            Err(_) => Err(Fault::Memory),
-            Ok(()) => Ok(Answer::Empty),
-        }
+        let place = Place { offset, ..old };
+        put_mark(self.alloc, &mut self.text.store, number, place)?;
+        Ok(Answer::Empty)
     }
 
     /// Takes the shared marks of these names out. The widget's own and unknown names are skipped.

@@ -1,17 +1,16 @@
 //! The names of widgets with their slots, and what is kept by slot.
 
-ghost use Rattle.std.specs.Prelude.{◌≡◌, false, ◌<◌, ◌≤◌, ◌++◌, ◌∷◌, [], length, take, map, filter, not, nat_lt, chars};
+ghost use Rattle.std.specs.Prelude.{◌≡◌, false, ◌<◌, ◌≤◌, length, take, map, filter, not, nat_lt, chars};
 ghost use Rattle.std.specs.Prelude.{string_bytes, IfOk, OnOk, OnErr};
 ghost use Rattle.std.specs.List.{All};
 ghost use Rattle.text_model.specs.declared.limits.TheConstants.Limits.{MOST_WIDGETS};
-ghost use Rattle.name_list.specs.Names.{AreNames, IsLeastFree, names_of, numbers_of, place_of};
+ghost use Rattle.name_list.specs.Names.{AreNames, names_of, place_of};
 ghost use Rattle.tcl_words.specs.Unread.{texts_of};
-ghost use Rattle.command_effects.specs.Edits.{new_mark, with_own_marks};
 ghost use Rattle.command_effects.specs.Words.{is_same};
 ghost use Rattle.tcl_words.specs.ListGrowth.{Goes};
 ghost use Rattle.documents.specs.Documents.{whole};
 ghost use Rattle.reports.specs.Keys.{numbers_gone, seats_left};
-ghost use Rattle.documents.specs.Seats.{IsLonger};
+ghost use Rattle.documents.specs.Seats.{IsLonger, IsSeatPut};
 
 use command_effects::{is_among, is_word, put_widget_marks};
 use edit_ops::{Anchors, EditedText};
@@ -51,13 +50,8 @@ pub fn make_seat<S: TextStore>(
     requires few { length seats.old.entries < seats.old.limit }
     requires slots { seats.old.limit ≡ MOST_WIDGETS }
     requires within { offset ≤ length (S.content text.old.store).cells }
-    ensures least { IfOk result (IsLeastFree (numbers_of seats.old.entries)) }
-    ensures below { IfOk result (λ slot. slot < MOST_WIDGETS) }
-    ensures last { IfOk result (λ slot. seats.new
-        ≡ record seats.old { entries = seats.old.entries ++ record { name = chars name.now; number = slot } ∷ [] }) }
-    ensures sound { OnOk result (AreNames seats.new) }
-    ensures store { IfOk result (λ slot. S.content text.new.store
-        ≡ with_own_marks slot (record new_mark { offset = offset }) (S.content text.old.store)) }
+    ensures seat { IfOk result (IsSeatPut (chars name.now) offset seats.old seats.new (S.content text.old.store)
+        (S.content text.new.store)) }
     ensures room { IfOk result (λ slot. (slot < length disabled.new.items) × (slot < length text.new.anchors.items)) }
     ensures disabled { IsLonger false disabled.old.items disabled.new.items }
     ensures anchors { IsLonger whole text.old.anchors.items text.new.anchors.items }

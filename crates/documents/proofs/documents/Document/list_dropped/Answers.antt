@@ -2,7 +2,7 @@ use Rattle.documents.proofs.Common.{◌≤◌, ◌∙◌, ◌++◌, List, ℕ, l
 use Rattle.documents.proofs.Common.{length-map, Named, window_names, parts_of, gone}
 use Rattle.name_list.specs.Names.{names_of}
 use Rattle.documents.proofs.DroppedMarksLaws.{dropped-more, dropped-past, going}
-use Rattle.documents.proofs.ListedMarksLaws.{own_listed}
+use Rattle.documents.proofs.MarkReportLaws.{own_listed}
 use Rattle.documents.proofs.WellFormedLaws.{windows-kept}
 use Rattle.documents.proofs.documents.Document.list_dropped.Goals.{then-is_among+in_ok-push_gone_marks, else-is_among}
 use Rattle.documents.proofs.documents.Document.list_dropped.Goals as goal

@@ -2,7 +2,8 @@ use Rattle.documents.proofs.Common.{◌≤◌, ◌++◌, ◌∙◌, ℕ, List, a
 use Rattle.documents.proofs.Common.{length-map, chars, Named, Mark, watched, MarkKey}
 use Rattle.name_list.specs.Names.{names_of}
 use Rattle.mark_table.specs.SharedMarks.{names_of as mark_names}
-use Rattle.documents.proofs.ListedMarksLaws.{keys-kept, own-more, own_listed, shared-more, shared_listed}
+use Rattle.documents.proofs.ListedMarksLaws.{keys-kept, own-more, shared-more, shared_listed}
+use Rattle.documents.proofs.MarkReportLaws.{own_listed}
 use Rattle.documents.proofs.PartsLaws.{stand}
 use Rattle.documents.proofs.documents.Document.list_marks.Goals as goal
 

@@ -1,7 +1,8 @@
 use Rattle.documents.proofs.Common.{◌≡◌, ◌++◌, map, take, watched}
 use Rattle.name_list.specs.Names.{names_of}
 use Rattle.mark_table.specs.SharedMarks.{names_of as mark_names}
-use Rattle.documents.proofs.ListedMarksLaws.{own_listed, shared_listed}
+use Rattle.documents.proofs.ListedMarksLaws.{shared_listed}
+use Rattle.documents.proofs.MarkReportLaws.{own_listed}
 use Rattle.documents.proofs.documents.Document.list_marks.Given as goal
 
 abbrev pub invariant-loop-seat : goal.invariant-loop-seat

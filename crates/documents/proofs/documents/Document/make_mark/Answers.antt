@@ -1,16 +1,16 @@
 use Rattle.documents.proofs.Common.{◌<◌, ◌≤◌, None, Ok, Empty, length, arith, chars, widget_at, parts_of, set_found}
 use Rattle.documents.proofs.ChangeLaws.{Leaves}
-use Rattle.documents.proofs.MarkLaws.{leaves-made, new-name}
+use Rattle.documents.proofs.MarkLaws.{leaves-made}
 use Rattle.documents.proofs.PartsLaws.{cells-kept, stand}
+use Rattle.documents.proofs.SetMarkLaws.{new-name}
 use Rattle.documents.proofs.documents.Document.make_mark.Given.{Over}
 use Rattle.documents.proofs.documents.Document.make_mark.Goals.{In_ok-make_mark}
 use Rattle.documents.proofs.documents.Document.make_mark.Goals as goal
 
 pub make_mark-requires-clause-new : goal.make_mark-requires-clause-new
 make_mark-requires-clause-new g c =
-    let document = c.args.self.now in
-    (new-name (parts_of g.S.TextStore.content c.self.inside) document (widget_at document c.args.seat)
-    (chars c.args.name.now) (stand c.self.invariant c.self.view_is) c.requires.new).1
+    (new-name (stand c.self.invariant c.self.view_is) (widget_at c.args.self.now c.args.seat) (chars c.args.name.now)
+    c.requires.new).1
 
 -- what is left where the mark was made
 left : (g : Over) (c : In_ok-make_mark g)
@@ -37,7 +37,7 @@ left g c =
       c.if-len-marks.false,
     ) in
     leaves-made c.args.limits.now parts c.make_mark.new.marks (g.S.TextStore.content c.make_mark.new.store) document widget
-    word c.args.offset stands within (new-name parts document widget word stands c.requires.new).0 few
+    word c.args.offset stands within (new-name stands widget word c.requires.new).0 few
     c.in_ok-make_mark.ensures.made
 
 pub invariant_of-self-2 : goal.invariant_of-self-2
