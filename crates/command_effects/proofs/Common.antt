@@ -1,8 +1,8 @@
 -- The names that most proofs of this crate cite, passed on from one place. Declares nothing.
 pub use Rattle.std.proofs.Common.{[], ap₂, true≢false, ℕ, ℤ, ◌&&◌, ◌++◌, ◌+◌, ◌-◌, ◌<◌, ◌||◌, ◌∙◌, ◌∷◌, ◌≡◌, ◌≤◌, ◌⊎◌}
 pub use Rattle.std.proofs.Common.{Bool, Global, List, None, Ok, Option, Some, Vec, ap, append_assoc, arith, chars, cond}
-pub use Rattle.std.proofs.Common.{drop, false, filter, get_or, inl, inr, length, length-drop, map, not, refl, slice_get}
-pub use Rattle.std.proofs.Common.{subst, suc, sym, take, true, w32, zero}
+pub use Rattle.std.proofs.Common.{drop, drop-cons, false, filter, get_or, inl, inr, length, length-drop, map, not, refl}
+pub use Rattle.std.proofs.Common.{slice_get, subst, suc, sym, take, true, w32, zero}
 pub use Rattle.command_effects.specs.Faults.{with_value}
 pub use Rattle.command_effects.specs.Lists.{Pair, all_names, and_pairs, listed_names, pair_at, pairs_at, with_name}
 pub use Rattle.command_effects.specs.Lists.{with_names}

@@ -30,21 +30,6 @@ neither : (a b : Bool) → not (a || b) ≡ (not a && not b)
 neither true b = refl
 neither false b = refl
 
--- `sel` stays in any case
-stays-sel : (names : List (List ℕ)) (name other : List ℕ) → bytes_eq name sel ≡ true →
-    stays (names ++ name ∷ []) other ≡ stays names other
-stays-sel names name other is_sel =
-    ap (λ b. bytes_eq other sel || not b) (is_among-push other name names)
-    ∙ elim (bytes_eq other sel) as (λ b. bytes_eq other sel ≡ b →
-    (b || not (is_among other names || bytes_eq other name)) ≡ (b || not (is_among other names))) [
-      | true ↦ λ _. refl
-      | false ↦ λ apart.
-          let other_name : bytes_eq other name ≡ false = false_from_ne_true (bytes_eq other name) (λ same.
-          true≢false (sym ((bytes_eq-Decides other sel).1 ((bytes_eq-Decides other name).0 same
-          ∙ (bytes_eq-Decides name sel).0 is_sel)) ∙ apart)) in
-          ap (λ b. not (is_among other names || b)) other_name ∙ ap not (or-false (is_among other names))
-    ] refl
-
 -- a name isn't among some and one more
 pub not_pushed : (names : List (List ℕ)) (name other : List ℕ) →
     not (is_among other (names ++ name ∷ [])) ≡ (not (is_among other names) && not (bytes_eq name other))
@@ -55,20 +40,23 @@ not_pushed names name other =
     (bytes_eq-Decides name other).1 (sym ((bytes_eq-Decides other name).0 same)))
     (λ same. (bytes_eq-Decides other name).1 (sym ((bytes_eq-Decides name other).0 same))))
 
-stays-other : (names : List (List ℕ)) (name other : List ℕ) → bytes_eq name sel ≡ false →
-    stays (names ++ name ∷ []) other ≡ (stays names other && not (bytes_eq name other))
-stays-other names name other no_sel =
-    elim (bytes_eq other sel) as (λ b. bytes_eq other sel ≡ b →
-    (b || not (is_among other (names ++ name ∷ [])))
-    ≡ ((b || not (is_among other names)) && not (bytes_eq name other))) [
-      | true ↦ λ is_sel.
-          let apart : bytes_eq name other ≡ false = false_from_ne_true (bytes_eq name other) (λ same.
-          true≢false (sym ((bytes_eq-Decides name sel).1 ((bytes_eq-Decides name other).0 same
-          ∙ (bytes_eq-Decides other sel).0 is_sel)) ∙ no_sel)) in
-          ap not (sym apart)
-      | false ↦ λ _.
-          not_pushed names name other
-    ] refl
+-- `sel` stays in any case, and another name where it isn't the one more
+stays-push : (names : List (List ℕ)) (name other : List ℕ) → stays (names ++ name ∷ []) other
+    ≡ (if bytes_eq name sel then stays names other else (stays names other && not (bytes_eq name other)))
+stays-push names name other =
+    ap (λ b. bytes_eq other sel || b) (not_pushed names name other)
+    ∙ by-case (bytes_eq other sel) (not (is_among other names)) (bytes_eq name other) (bytes_eq name sel) (λ same.
+    ap (λ n. bytes_eq n sel) (sym ((bytes_eq-Decides name other).0 same)))
+  where
+    by-case : (other_is left same is_sel : Bool) → (same ≡ true → other_is ≡ is_sel) → (other_is || (left && not same))
+        ≡ (if is_sel then other_is || left else ((other_is || left) && not same))
+    by-case true left same true alike = refl
+    by-case true left true false alike = absurd (true≢false (alike refl))
+    by-case true left false false alike = refl
+    by-case false left same false alike = refl
+    by-case false left true true alike = absurd (true≢false (sym (alike refl)))
+    by-case false true false true alike = refl
+    by-case false false false true alike = refl
 
 pub filter-alike : {A : Type 0} (p q : A → Bool) → ((x : A) → p x ≡ q x) → (xs : List A) → filter p xs ≡ filter q xs
 filter-alike p q same [] = refl
@@ -108,20 +96,29 @@ without-apart name_of name (x ∷ xs) apart =
           (without-apart name_of name xs (AreApart-tail (name_of x) (map name_of xs) apart))
     ] refl
 
+-- what is left of elements with distinct names, without the one of a name
+without-left : {A : Type 0} (name_of : A → List ℕ) (name : List ℕ) (left less : List ℕ → Bool) →
+    ((other : List ℕ) → less other ≡ (left other && not (bytes_eq name other)))
+    → (xs : List A) → AreApart (map name_of (filter (λ x. left (name_of x)) xs))
+    → without (λ x. bytes_eq name (name_of x)) (filter (λ x. left (name_of x)) xs) ≡ filter (λ x. less (name_of x)) xs
+without-left name_of name left less same xs apart =
+    without-apart name_of name (filter (λ x. left (name_of x)) xs) apart
+    ∙ filter-filter (λ x. left (name_of x)) (λ x. not (bytes_eq name (name_of x))) xs
+    ∙ filter-alike _ _ (λ x. sym (same (name_of x))) xs
+
 -- a table without some tags, from which one more is deleted
 pub tags_left-more : (names : List (List ℕ)) (name : List ℕ) (tags : List Tag) →
     AreApart (names_of (tags_left names tags))
     → deleted name (tags_left names tags) ≡ tags_left (names ++ name ∷ []) tags
 tags_left-more names name tags apart =
-    elim (bytes_eq name sel) as (λ b. bytes_eq name sel ≡ b →
-    (if b then tags_left names tags else without (is_named name) (tags_left names tags))
+    elim (bytes_eq name sel) as (λ b. ((other : List ℕ) → stays (names ++ name ∷ []) other
+    ≡ (if b then stays names other else (stays names other && not (bytes_eq name other))))
+    → (if b then tags_left names tags else without (is_named name) (tags_left names tags))
     ≡ tags_left (names ++ name ∷ []) tags) [
-      | true ↦ λ is_sel. filter-alike _ _ (λ (tag : Tag). sym (stays-sel names name tag.name is_sel)) tags
-      | false ↦ λ no_sel.
-          without-apart (λ (tag : Tag). tag.name) name (tags_left names tags) apart
-          ∙ filter-filter (λ (tag : Tag). stays names tag.name) (λ (tag : Tag). not (bytes_eq name tag.name)) tags
-          ∙ filter-alike _ _ (λ (tag : Tag). sym (stays-other names name tag.name no_sel)) tags
-    ] refl
+      | true ↦ λ same. filter-alike _ _ (λ (tag : Tag). sym (same tag.name)) tags
+      | false ↦ λ same.
+          without-left (λ (tag : Tag). tag.name) name (stays names) (stays (names ++ name ∷ [])) same tags apart
+    ] (stays-push names name)
 
 -- a table without the tags of no names
 pub tags_left-none : (tags : List Tag) → tags_left [] tags ≡ tags
@@ -133,10 +130,8 @@ tags_left-none (tag ∷ tags) =
 pub marks_left-more : (names : List (List ℕ)) (name : List ℕ) (marks : List Mark) →
     AreApart (mark_names_of (marks_left names marks))
     → without (mark_is_named name) (marks_left names marks) ≡ marks_left (names ++ name ∷ []) marks
-marks_left-more names name marks apart =
-    without-apart (λ (mark : Mark). mark.name) name (marks_left names marks) apart
-    ∙ filter-filter (λ (mark : Mark). is_left names mark.name) (λ (mark : Mark). not (bytes_eq name mark.name)) marks
-    ∙ filter-alike _ _ (λ (mark : Mark). sym (not_pushed names name mark.name)) marks
+marks_left-more names name marks =
+    without-left (λ (mark : Mark). mark.name) name (is_left names) (is_left (names ++ name ∷ [])) (not_pushed names name) marks
 
 pub marks_left-none : (marks : List Mark) → marks_left [] marks ≡ marks
 marks_left-none [] = refl

@@ -3,10 +3,10 @@ use Rattle.command_effects.proofs.Common.{◌≡◌, ℕ, suc, ◌+◌, ◌<◌,
 use Rattle.command_effects.proofs.Common.{take, refl, sym, ap, subst, ◌∙◌, arith, inl, inr, ◌⊎◌, String, chars}
 use Rattle.command_effects.proofs.Common.{string_bytes, get_or, IfSome, Option, None, Some, find, bytes_eq, slice_get}
 use Rattle.command_effects.proofs.Common.{◌||◌, if◌then◌else◌, position_from, option_or, length-map, map-append}
-use Rattle.command_effects.proofs.Common.{append_assoc, append-nil, take_all, take-append-le, take-append-drop}
-use Rattle.command_effects.proofs.Common.{length-append, find-append, texts_of, none-some, bytes_eq-Decides, Tag, Tags}
-use Rattle.command_effects.proofs.Common.{names_of, slot_of, is_named, Pair, with_name, with_names, listed_names}
-use Rattle.command_effects.proofs.Common.{all_names, IsFront, is_among, is_same, drop, take-take, take_more}
+use Rattle.command_effects.proofs.Common.{take_all, take-append-le, take-append-drop, length-append, find-append}
+use Rattle.command_effects.proofs.Common.{texts_of, none-some, bytes_eq-Decides, Tag, Tags, names_of, slot_of, is_named}
+use Rattle.command_effects.proofs.Common.{with_name, with_names, IsFront, is_among, is_same, drop, take-take, take_more}
+use Rattle.command_effects.proofs.Common.{drop-cons}
 use Rattle.std.specs.Prelude.{option_map}
 
 -- an unknown name, and one that stands in a table, at a place
@@ -74,15 +74,10 @@ pub with_name-known : (name : List ℕ) (tags : List Tag) (slot : ℕ) → slot_
 with_name-known name tags slot is =
     ap (λ b. if b then names_of tags else names_of tags ++ name ∷ []) (sym (among_slot name tags slot is))
 
-pub with_name-new : (name : List ℕ) (tags : List Tag) → slot_of name tags ≡ None →
+with_name-new : (name : List ℕ) (tags : List Tag) → slot_of name tags ≡ None →
     with_name (names_of tags) name ≡ names_of tags ++ name ∷ []
 with_name-new name tags is =
     ap (λ b. if b then names_of tags else names_of tags ++ name ∷ []) (absent_slot name tags is)
-
-pub with_name-made : (name : List ℕ) (tags : List Tag) (slot : ℕ) → slot_of name tags ≡ None →
-    names_of (tags ++ record { name = name; slot = slot } ∷ []) ≡ with_name (names_of tags) name
-with_name-made name tags slot is = map-append (λ (tag : Tag). tag.name) tags (record { name = name; slot = slot } ∷ [])
-    ∙ sym (with_name-new name tags is)
 
 pub with_name-full : (name : List ℕ) (tags : List Tag) (limit : ℕ) → slot_of name tags ≡ None → limit < length tags →
     limit + 1 < length (with_name (names_of tags) name)
@@ -94,7 +89,7 @@ with_name-full name tags limit is full =
       full,
     ))
 
-pub slot_made : (name : List ℕ) (tags : List Tag) (slot : ℕ) → slot_of name tags ≡ None →
+slot_made : (name : List ℕ) (tags : List Tag) (slot : ℕ) → slot_of name tags ≡ None →
     slot_of name (tags ++ record { name = name; slot = slot } ∷ []) ≡ Some slot
 slot_made name [] slot is = ap (λ b. option_map (λ (tag : Tag). tag.slot)
     (cond b (Some (record { name = name; slot = slot })) None)) ((bytes_eq-Decides name name).1 refl)
@@ -115,7 +110,7 @@ with_name-longer names name =
       | false ↦ omega (arith, length-append names (name ∷ []))
     ]
 
-pub with_names-longer : (names more : List (List ℕ)) → length names ≤ length (with_names names more)
+with_names-longer : (names more : List (List ℕ)) → length names ≤ length (with_names names more)
 with_names-longer names [] = omega arith
 with_names-longer names (name ∷ more) =
     omega (arith, with_name-longer names name, with_names-longer (with_name names name) more)
@@ -130,13 +125,26 @@ pub front_same : (tags : Tags) → IsFront tags tags
 front_same tags =
     record { tags = take_all (length tags.tags) tags.tags (omega arith); longer = omega arith; limit = refl }
 
-pub front_more : (old : Tags) (tag : Tag) → IsFront old (record old { tags = old.tags ++ tag ∷ [] })
-front_more old tag = record {
-  tags = take-append-le (length old.tags) old.tags (tag ∷ []) (omega arith)
-      ∙ take_all (length old.tags) old.tags (omega arith);
-  longer = omega (arith, length-append old.tags (tag ∷ []));
-  limit = refl;
-}
+-- what a tag that is made leaves
+pub tag-made : {old new : Tags} (name : List ℕ) (slot : ℕ) → slot_of name old.tags ≡ None →
+    new ≡ record old { tags = old.tags ++ record { name = name; slot = slot } ∷ [] } → record {
+      front : IsFront old new;
+      made : names_of new.tags ≡ with_name (names_of old.tags) name;
+      slot : slot_of name new.tags ≡ Some slot;
+    }
+tag-made {old} {new} name slot unknown is =
+    let tag : Tag = record { name = name; slot = slot } in
+    record {
+      front = subst (IsFront old) (sym is) (record {
+        tags = take-append-le (length old.tags) old.tags (tag ∷ []) (omega arith)
+            ∙ take_all (length old.tags) old.tags (omega arith);
+        longer = omega (arith, length-append old.tags (tag ∷ []));
+        limit = refl;
+      });
+      made = ap (λ (t : Tags). names_of t.tags) is ∙ map-append (λ (tag : Tag). tag.name) old.tags (tag ∷ [])
+          ∙ sym (with_name-new name old.tags unknown);
+      slot = ap (λ (t : Tags). slot_of name t.tags) is ∙ slot_made name old.tags slot unknown;
+    }
 
 pub front_on : (old between new : Tags) → IsFront old between → IsFront between new → IsFront old new
 front_on old between new first second = record {
@@ -170,53 +178,21 @@ pub take-more : {A : Type 0} (xs : List A) (at : ℕ) (x : A) → at < length xs
     take (at + 1) xs ≡ take at xs ++ x ∷ []
 take-more xs at x within is = take_more xs at x within ∙ ap (λ y. take at xs ++ y ∷ []) (sym is)
 
--- a name more is made
-pub with_names-step : {Z : Type 0} (names : List (List ℕ)) (words : List (String Z)) (at : ℕ) (word : String Z)
-    (bytes : List ℕ) → at < length words → word ≡ get_or words at word → bytes ≡ string_bytes word
-    → with_name (with_names names (texts_of (take at words))) (chars bytes)
-    ≡ with_names names (texts_of (take (at + 1) words))
-with_names-step {Z} names words at word bytes within is bytes_are =
-    ap (λ bs. with_name (with_names names (texts_of (take at words))) (chars bs)) bytes_are
-    ∙ sym (with_names-append names (texts_of (take at words)) (chars (string_bytes word) ∷ []))
-    ∙ ap (with_names names) (sym (map-append (λ w. chars (string_bytes w)) (take at words) (word ∷ []))
-    ∙ ap texts_of (sym (take-more words at word within is)))
+-- the words from one on
+pub texts-left : {Z : Type 0} (words : List (String Z)) (at : ℕ) (word : String Z) (bytes : List ℕ) →
+    at < length words → word ≡ get_or words at word → bytes ≡ string_bytes word
+    → texts_of (drop at words) ≡ chars bytes ∷ texts_of (drop (at + 1) words)
+texts-left words at word bytes within is bytes_are =
+    ap texts_of (drop-cons words at word within)
+    ∙ ap (λ bs. chars bs ∷ texts_of (drop (suc at) words)) (sym (bytes_are ∙ ap string_bytes is))
+    ∙ ap (λ n. chars bytes ∷ texts_of (drop n words)) (let h : suc at ≡ at + 1 = omega arith in h)
 
--- what was too many stays so
-pub too_many : {Z : Type 0} (names : List (List ℕ)) (words : List (String Z)) (at limit : ℕ) →
-    limit < length (with_names names (texts_of (take at words))) → limit < length (with_names names (texts_of words))
-too_many {Z} names words at limit many =
-    let split : with_names names (texts_of words)
-    ≡ with_names (with_names names (texts_of (take at words))) (texts_of (drop at words)) =
-    ap (λ ws. with_names names (texts_of ws)) (sym (take-append-drop at words))
-    ∙ ap (with_names names) (map-append (λ w. chars (string_bytes w)) (take at words) (drop at words))
-    ∙ with_names-append names (texts_of (take at words)) (texts_of (drop at words)) in
-    omega (
-      arith,
-      ap length split,
-      with_names-longer (with_names names (texts_of (take at words)))
-          (texts_of (drop at words)),
-      many,
-    )
-
-pub all_names-append : (pairs more : List Pair) → all_names (pairs ++ more) ≡ all_names pairs ++ all_names more
-all_names-append [] more = refl
-all_names-append (pair ∷ pairs) more = ap (λ ns. listed_names pair.names ++ ns) (all_names-append pairs more)
-    ∙ sym (append_assoc (listed_names pair.names) (all_names pairs) (all_names more))
-
--- the names of a list more are made
-pub listed-push : (names : List (List ℕ)) (pairs : List Pair) (pair : Pair) →
-    with_names (with_names names (all_names pairs)) (listed_names pair.names)
-    ≡ with_names names (all_names (pairs ++ pair ∷ []))
-listed-push names pairs pair =
-    sym (with_names-append names (all_names pairs) (listed_names pair.names))
-    ∙ ap (with_names names) (ap (λ ns. all_names pairs ++ ns) (sym (append-nil (listed_names pair.names)))
-    ∙ sym (all_names-append pairs (pair ∷ [])))
-
-pub too_many_before : (names : List (List ℕ)) (pairs more : List Pair) (limit : ℕ) →
-    limit < length (with_names names (all_names pairs)) → limit < length (with_names names (all_names (pairs ++ more)))
-too_many_before names pairs more limit many =
-    let split : with_names names (all_names (pairs ++ more))
-    ≡ with_names (with_names names (all_names pairs)) (all_names more) =
-    ap (with_names names) (all_names-append pairs more)
-    ∙ with_names-append names (all_names pairs) (all_names more) in
-    omega (arith, ap length split, with_names-longer (with_names names (all_names pairs)) (all_names more), many)
+-- where names are too many with some more, they are too many with all
+pub too_many : (names more rest all : List (List ℕ)) (limit : ℕ) → limit < length (with_names names more) →
+    with_names names (more ++ rest) ≡ all → limit < length all
+too_many names more rest all limit many is = omega (
+  arith,
+  many,
+  with_names-longer (with_names names more) rest,
+  ap length (sym (with_names-append names more rest) ∙ is),
+)

@@ -37,18 +37,6 @@ slots_named-push tags own (first ∷ names) name =
     ap (with_found (known_tags tags own first)) (slots_named-push tags own names name)
     ∙ found_swap (known_tags tags own first) (known_tags tags own name) (slots_named tags own names)
 
--- the slot of a name more
-pub slots_named-step : {Z : Type 0} (tags : List Tag) (own : ℕ) (words : List (String Z)) (at : ℕ) (word : String Z)
-    (bytes : List ℕ) → at < length words → word ≡ get_or words at word → bytes ≡ string_bytes word
-    → with_found (known_tags tags own (chars bytes)) (slots_named tags own (texts_of (take at words)))
-    ≡ slots_named tags own (texts_of (take (at + 1) words))
-slots_named-step {Z} tags own words at word bytes within is bytes_are =
-    ap (λ bs. with_found (known_tags tags own (chars bs)) (slots_named tags own (texts_of (take at words))))
-    bytes_are
-    ∙ sym (slots_named-push tags own (texts_of (take at words)) (chars (string_bytes word)))
-    ∙ ap (slots_named tags own) (sym (map-append (λ w. chars (string_bytes w)) (take at words) (word ∷ []))
-    ∙ ap texts_of (sym (take-more words at word within is)))
-
 -- a word more
 pub texts-more : {Z : Type 0} (words : List (String Z)) (at : ℕ) (word : String Z) (bytes : List ℕ) →
     at < length words → word ≡ get_or words at word → bytes ≡ string_bytes word
@@ -57,6 +45,15 @@ texts-more {Z} words at word bytes within is bytes_are =
     ap texts_of (take-more words at word within is)
     ∙ map-append (λ w. chars (string_bytes w)) (take at words) (word ∷ [])
     ∙ ap (λ bs. texts_of (take at words) ++ chars bs ∷ []) (sym bytes_are)
+
+-- the slot of a name more
+pub slots_named-step : {Z : Type 0} (tags : List Tag) (own : ℕ) (words : List (String Z)) (at : ℕ) (word : String Z)
+    (bytes : List ℕ) → at < length words → word ≡ get_or words at word → bytes ≡ string_bytes word
+    → with_found (known_tags tags own (chars bytes)) (slots_named tags own (texts_of (take at words)))
+    ≡ slots_named tags own (texts_of (take (at + 1) words))
+slots_named-step tags own words at word bytes within is bytes_are =
+    sym (slots_named-push tags own (texts_of (take at words)) (chars bytes))
+    ∙ ap (slots_named tags own) (sym (texts-more words at word bytes within is bytes_are))
 
 -- ---- the numbers of what is found by names
 

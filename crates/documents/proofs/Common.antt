@@ -53,7 +53,8 @@ pub use Rattle.documents.specs.Options.{AreLines, IsLine, anchor_at, settings_of
 pub use Rattle.documents.specs.Promise.{Change, Does, Gives, answered, change_with, edited, refused, unless_idle}
 pub use Rattle.documents.specs.Ranges.{spans_shown}
 pub use Rattle.documents.specs.Seats.{IsLonger, IsSeatPut}
-pub use Rattle.documents.specs.Tags.{add_spans, known_or, moved_answer, remove_spans, reordered, tag_delete, tags_on, unknown_at}
+pub use Rattle.documents.specs.Tags.{add_spans, known_or, moved_answer, remove_spans, reordered, tag_delete, tags_on}
+pub use Rattle.documents.specs.Tags.{unknown_at}
 pub use Rattle.documents.specs.Texts.{insert_at, insertion_at, insertion_offset, joined_text, keyed_text, tags_with}
 pub use Rattle.documents.specs.Texts.{within_limits}
 pub use Rattle.documents.specs.Told.{Foretells, IsTold, reply_of}
@@ -111,14 +112,13 @@ pub use Rattle.reports.proofs.KnownLaws.{known-slot}
 pub use Rattle.reports.proofs.LookupLaws.{among-looked, has}
 pub use Rattle.reports.proofs.ReportLaws.{of_tags, tags-alone}
 pub use Rattle.reports.proofs.SlotLaws.{AreSeats-names, known_standing, slot_for, slot_for-named}
-pub use Rattle.reports.proofs.SpanToldLaws.{has_key, runs-told, with_tag-none}
 pub use Rattle.reports.proofs.WordLaws.{among-other, same-word, texts-more, words-are}
 pub use Rattle.reports.specs.Cells.{KeyedCell, bare, characters, keyed, keys_between, keys_or, with_key, with_tag}
 pub use Rattle.reports.specs.Cells.{without_tags}
 pub use Rattle.reports.specs.Keys.{Keys, key_named, key_pairs, keys_named, keys_of, numbers_gone, pair_slots}
 pub use Rattle.reports.specs.Keys.{seats_left}
 pub use Rattle.reports.specs.Slots.{AreKnown, AreSeats, HasKnownSlots}
-pub use Rattle.reports.specs.TagsTold.{AreGapped, TellsSpans, TellsTags, flags_of}
+pub use Rattle.reports.specs.TagsTold.{AddsRuns, TellsSpans, TellsTags, flags_of}
 pub use Rattle.reports.specs.Told.{TellsCells}
 pub use Rattle.reports.specs.declared.keys.Key.{Key}
 pub use Rattle.reports.specs.declared.told.EditTold.{EditTold}

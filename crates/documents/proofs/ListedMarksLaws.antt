@@ -2,7 +2,11 @@
 use Rattle.documents.proofs.Common.{◌≡◌, ◌≢◌, ℕ, ◌+◌, Bool, true, false, ◌||◌, List, [], ◌∷◌, ◌++◌, Some, map, take}
 use Rattle.documents.proofs.Common.{refl, sym, ap, ap₂, ◌∙◌, inl, inr, option_map, if◌then◌else◌, append_assoc}
 use Rattle.documents.proofs.Common.{true≢false, false≢true, All-head, All-nil, All-push, All-tail, arith, map-append}
-use Rattle.documents.proofs.Common.{map-map, same_Some, slice_get, take-found, position_from, is_among, is_own, is_same, literal, Document, Parts, SharedMark, Widget, mark_unset, mark_number, placed, Stands, suc, AreListed, shared_key, AreOthers, AreSingle, AreWatched, HasMarksBut, mark_at, mark_key, mark_keys, own_keys, watched, MarkChange, MarkKey, flat_map-append, among-other, words-are}
+use Rattle.documents.proofs.Common.{map-map, same_Some, slice_get, take-found, position_from, is_among, is_own, is_same}
+use Rattle.documents.proofs.Common.{literal, Document, Parts, SharedMark, Widget, mark_unset, mark_number, placed}
+use Rattle.documents.proofs.Common.{Stands, suc, AreListed, shared_key, AreOthers, AreSingle, AreWatched, HasMarksBut}
+use Rattle.documents.proofs.Common.{mark_at, mark_key, mark_keys, own_keys, watched, MarkChange, MarkKey}
+use Rattle.documents.proofs.Common.{flat_map-append, among-other, words-are}
 use Rattle.name_list.specs.Names.{names_of}
 use Rattle.documents.proofs.MarkReportLaws.{all-back, all-front, by-kind, current_key, insert_key, own_listed}
 use Rattle.documents.proofs.MarksToldLaws.{left-none, left-other, same-number, sought}

@@ -2,7 +2,7 @@
 use Rattle.documents.proofs.Common.{◌≡◌, ℕ, ◌+◌, ◌≤◌, List, [], ◌∷◌, Bool, Ok, length, map, refl, sym, ap, subst, ◌∙◌}
 use Rattle.documents.proofs.Common.{arith, All, AllByRecursion, All-head, All-tail, Named, AreTags, Tag, Tags, Content}
 use Rattle.documents.proofs.Common.{Marks, IsDocument, LimitTable, changed, with_slot, characters-with_slot}
-use Rattle.documents.proofs.Common.{length-changed, FitsText, AreAnchored, Log, SpanFits, tagged, Span, Empty, Document}
+use Rattle.documents.proofs.Common.{length-changed, FitsText, AreAnchored, SpanFits, tagged, Span, Empty, Document}
 use Rattle.documents.proofs.Common.{KeyedCell, Parts, document_of, placed, widget_of, key_pairs, keyed, pair_slots}
 use Rattle.documents.proofs.Common.{AreMarked, HasKnownSlots, HasOwnMarks, Stands, Change, answered, Contains, names_of}
 use Rattle.documents.proofs.Common.{known-changed}
@@ -14,10 +14,6 @@ use Rattle.std.specs.FinMap as finite
 -- the parts with another table and another store
 abbrev pub retagged : Parts → Tags → Content → Parts
 retagged parts table content = record parts { tags = table; content = content }
-
--- and with what is kept of the edits
-abbrev pub relogged : Parts → Log → Parts
-relogged parts log = record parts { journal = record parts.journal { log = log } }
 
 -- The cells have slots of the seats and of the new table alone. The marks and the characters are as they were.
 pub record IsRetagged (old : Parts) (table : Tags) (content : Content) : Type 0 where
@@ -79,13 +75,6 @@ leaves-retagged limits old table content document change stands new few is =
       marks = λ few. few;
       seats = refl;
     })
-
--- what is kept of the edits is the same
-pub leaves-relogged : (limits : LimitTable) (new : Parts) (log : Log) (document : Document) (change : Change) →
-    log ≡ new.journal.log → Leaves limits new document (Ok Empty) change
-    → Leaves limits (relogged new log) document (Ok Empty) change
-leaves-relogged limits new log document change same leaves =
-    subst (λ (kept : Log). Leaves limits (relogged new kept) document (Ok Empty) change) (sym same) leaves
 
 -- ---- a slot that is set on spans, or taken off them
 

@@ -1,33 +1,23 @@
 -- What commands that add the tag of a widget to spans, or remove it, report.
-use Rattle.documents.proofs.Common.{◌≡◌, ℕ, ◌+◌, ◌-◌, true, false, List, length, get_or, refl, sym, ap, ap₂, ◌∙◌, subst}
-use Rattle.documents.proofs.Common.{Some, None, true≢false, All, All-map, same_Some, Named, known_tags, flags}
-use Rattle.documents.proofs.Common.{LimitTable, SpanFits, Span, with_name, is_among, Empty, TooManyTags, Document}
-use Rattle.documents.proofs.Common.{KeyedCell, Parts, Widget, document_of, widget_at, with_tag, Key, key_named}
-use Rattle.documents.proofs.Common.{key_pairs, Stands, key_of, Change, answered, refused, spans_shown, add_spans}
-use Rattle.documents.proofs.Common.{remove_spans, TellsTags, flags_of, Foretells, slice_get, nat_lt, if◌then◌else◌}
-use Rattle.documents.proofs.Common.{AreGapped, keys_of-has, keyed-flags, keyed_cell, has, slot_for, slot_for-named}
-use Rattle.documents.proofs.Common.{of_tags, tags-alone, has_key, with_tag-none}
+use Rattle.documents.proofs.Common.{◌≡◌, ℕ, ◌+◌, Bool, false, List, [], length, get_or, sym, ap, ap₂, ◌∙◌, subst, Some}
+use Rattle.documents.proofs.Common.{None, All, All-map, known_tags, flags, SpanFits, Span, Document, KeyedCell, Parts}
+use Rattle.documents.proofs.Common.{Widget, document_of, widget_at, with_tag, Key, key_named, key_pairs, Stands, key_of}
+use Rattle.documents.proofs.Common.{flags_of, keys_of-has, keyed-flags, keyed_cell, has, slot_for, slot_for-named}
+use Rattle.documents.proofs.Common.{of_tags, tags-alone, AreApart, in_spans, TellsSpans, TellsCells, ◌≤◌, All-weaker}
+use Rattle.documents.proofs.Common.{AddsRuns}
+use Rattle.reports.proofs.SpanToldLaws.{has_key, runs-told}
+use Rattle.reports.proofs.AddedRunLaws.{gapped-alone}
 use Rattle.reports.specs.declared.tag_lists.TagChange.{TagChange}
-use Rattle.name_list.specs.Names.{names_of}
-use Rattle.documents.proofs.PartsLaws.{Sits, mapped-at}
-use Rattle.documents.proofs.SpanLaws.{slot_known}
-use Rattle.std.specs.FinSet as set
+use Rattle.documents.proofs.PartsLaws.{Sits}
 
 -- the key of a name to a widget that sits at a place, by the slot that the name has to the widget, and where it has none
-module _ (parts : Parts) (document : Document) (place slot : ℕ) (stands : Stands parts document)
+module _ {parts : Parts} {document : Document} {place slot : ℕ} (stands : Stands parts document)
     (sits : Sits parts document place slot) (name : List ℕ) where
-  abbrev pub seen_key : Key
+  abbrev seen_key : Key
   seen_key = key_of (widget_at document place) name
 
   seen-is : key_named sits.seat.name name ≡ seen_key
-  seen-is = ap (λ (widget : Widget). key_named widget.name name) (sym sits.widget)
-
-  -- by the name as the widget's seat has it
-  pub seen-named : (widget : List ℕ) → slice_get (names_of parts.seats.entries) place ≡ Some widget →
-      key_named widget name ≡ seen_key
-  seen-named widget is =
-      ap (λ n. key_named n name) (same_Some widget sits.seat.name (sym is
-      ∙ mapped-at (λ (seat : Named). seat.name) parts.seats.entries place sits.seat sits.stands)) ∙ seen-is
+  seen-is = ap (λ (widget : Widget). key_of widget name) (sym sits.widget)
 
   pub seen-flags : (tag : ℕ) → Some tag ≡ known_tags parts.tags.tags slot name →
       flags_of seen_key document.cells ≡ flags tag parts.content.cells
@@ -56,52 +46,25 @@ module _ (parts : Parts) (document : Document) (place slot : ℕ) (stands : Stan
       kept.seats.names_apart kept.tags.names_apart
       ∙ ap (has (get_or parts.content.cells k d).tags) none)))
 
-  -- to take an unknown tag off spans changes nothing
-  pub unknown-off : is_among name document.tags ≡ false → (spans : List Span)
-      → All (SpanFits (length document.cells)) spans → with_tag seen_key false spans document.cells ≡ document.cells
-  unknown-off absent spans fits =
-      with_tag-none seen_key (flags_of seen_key document.cells) spans document.cells fits refl (seen-none unknown)
-    where
-      unknown : None ≡ known_tags parts.tags.tags slot name
-      unknown = elim (known_tags parts.tags.tags slot name) as (λ o. known_tags parts.tags.tags slot name ≡ o →
-          None ≡ o) [
-            | None ↦ λ _. refl
-            | Some tag ↦ λ there. absurd (true≢false (sym (slot_known name parts.tags.tags slot tag there)
-                ∙ ap (λ (d : Document). is_among name d.tags) stands.is ∙ absent))
-          ] refl
+-- the runs of spans of a text leave gaps
+pub runs-apart : {long : ℕ} {runs given : List Span} (spans : List Span)
+    → ((end : ℕ) → All (λ (span : Span). span.to ≤ end) spans → AreApart (end + 1) runs) → given ≡ runs
+    → All (SpanFits long) spans → AreApart (long + 1) given
+runs-apart {long} spans apart same fits =
+    subst (AreApart (long + 1)) (sym same)
+    (apart long (All-weaker (SpanFits long) (λ (span : Span). span.to ≤ long) (λ span fits. fits.within) spans fits))
 
--- ---- what commands on tags tell
-
-pub foretells-added : (limits : LimitTable) (document : Document) (widget : Widget) (name : List ℕ) (places : List ℕ)
-    (spans : List Span) (told : List TagChange) → spans ≡ spans_shown document widget places
-    → TellsTags told document.cells (with_tag (key_of widget name) true spans document.cells) → AreGapped told
-    → Foretells document (add_spans limits document widget name places) (of_tags told)
-foretells-added limits document widget name places spans told are tells gapped =
-    let new = with_tag (key_of widget name) true (spans_shown document widget places) document.cells in
-    let made : Change = answered (record document { tags = with_name document.tags name; cells = new }) Empty in
-    elim (nat_lt (limits.tags + 1) (length (with_name document.tags name))) as (λ b.
-    Foretells document (if b then refused document TooManyTags else made) (of_tags told)) [
-      | true ↦ λ never. absurd (true≢false (sym never))
-      | false ↦ λ _. tags-alone told document.cells new
-          (subst (λ ss. TellsTags told document.cells (with_tag (key_of widget name) true ss document.cells)) are tells)
-          gapped
-    ]
-
-pub foretells-removed : (parts : Parts) (document : Document) (place slot : ℕ) → Stands parts document →
-    Sits parts document place slot → (name : List ℕ) (places : List ℕ) (spans : List Span) (told : List TagChange)
-    → spans ≡ spans_shown document (widget_at document place) places → All (SpanFits (length document.cells)) spans
-    → (let widget = widget_at document place in
-    TellsTags told document.cells (with_tag (key_of widget name) false spans document.cells) → AreGapped told
-    → Foretells document (remove_spans document widget name places) (of_tags told))
-foretells-removed parts document place slot stands sits name places spans told are fits tells gapped =
-    let widget = widget_at document place in
-    let key = key_of widget name in
-    let new = with_tag key false (spans_shown document widget places) document.cells in
-    elim (is_among name document.tags) as (λ b. is_among name document.tags ≡ b →
-    Foretells document (answered (if b then record document { cells = new } else document) Empty) (of_tags told)) [
-      | true ↦ λ _ _. tags-alone told document.cells new
-          (subst (λ ss. TellsTags told document.cells (with_tag key false ss document.cells)) are tells) gapped
-      | false ↦ λ absent _. tags-alone told document.cells document.cells
-          (subst (TellsTags told document.cells)
-          (unknown-off parts document place slot stands sits name absent spans fits) tells) gapped
-    ] refl
+-- a list that began empty, of the changes of a key on the runs of spans, reports the spans
+pub runs-alone : {key used : Key} {found : List Bool} {cells : List KeyedCell} {runs given : List Span} {to : ℕ}
+    {before told : List TagChange} (on : Bool) (spans : List Span) → All (SpanFits (length cells)) spans
+    → AreApart (length cells + 1) runs
+    → ((offset : ℕ) → in_spans runs offset ≡ in_spans spans offset) → used ≡ key → flags_of key cells ≡ found
+    → given ≡ runs → before ≡ [] → TellsSpans used on found given before told → AddsRuns used 0 to before told
+    → TellsCells [] cells (with_tag key on spans cells) (of_tags told)
+runs-alone {key} {used} {found} {cells} {runs} {to = to} {before} {told} on spans fits apart covers is flagged same none
+    tells adds =
+    tags-alone told cells (with_tag key on spans cells)
+    (runs-told key on found cells spans runs before told fits apart covers flagged none
+    (subst (λ k. TellsSpans k on found runs before told) is
+    (subst (λ ss. TellsSpans used on found ss before told) same tells)))
+    (gapped-alone used 0 to before told none adds)

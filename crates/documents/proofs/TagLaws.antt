@@ -1,14 +1,16 @@
 -- A document after its tags are put in another order or deleted.
 use Rattle.documents.proofs.Common.{OnErr, OnOk, Result, Answer, Fault, IfErr, ◌≡◌, ℕ, ◌≤◌, Bool, true, false, List, []}
 use Rattle.documents.proofs.Common.{◌∷◌, Option, Err, Ok, cond, filter, length, map, refl, sym, ap, subst, ◌∙◌, arith}
-use Rattle.documents.proofs.Common.{map-map, AreTags, Tag, Tags, Cell, Content, LimitTable, Log, cell_without, cleared}
+use Rattle.documents.proofs.Common.{map-map, AreTags, Tag, Tags, Cell, Content, LimitTable, cell_without, cleared}
 use Rattle.documents.proofs.Common.{Empty, slots_deleted, tags_left, stays, Document, Parts, document_of, Stands}
 use Rattle.documents.proofs.Common.{answered, reordered, tag_delete, without_tags, IsOrdered, IsUnknown, Order}
 use Rattle.documents.proofs.Common.{names_of, keyed-deleted, known-deleted, names_left, keyed-reordered}
-use Rattle.documents.proofs.Common.{known-reordered, moved_answer}
+use Rattle.documents.proofs.Common.{known-reordered, moved_answer, State, state_of}
 use Rattle.documents.proofs.ChangeLaws.{Leaves, leaves-left, stands-same}
 use Rattle.documents.proofs.ReorderLaws.{reordered-made, reordered-unknown}
-use Rattle.documents.proofs.TableLaws.{leaves-relogged, leaves-retagged, relogged, retagged, retagged-is}
+use Rattle.documents.proofs.TableLaws.{leaves-retagged, retagged, retagged-is}
+use Rattle.documents.proofs.InsertionLaws.{with_tags}
+use Rattle.documents.proofs.StateLaws.{with_state}
 use Rattle.tag_table.specs.declared.faults.NoSuchTag as table_fault
 
 -- ---- another order
@@ -62,18 +64,18 @@ filter-shorter p (x ∷ xs) =
       | false ↦ omega (arith, rest)
     ]
 
-pub leaves-deleted : {old : Parts} {new : Tags} {content : Content} {log : Log} {document : Document} {slots : List ℕ}
+pub leaves-deleted : {old : Parts} {new : Tags} {state : State} {document : Document} {slots : List ℕ}
     (limits : LimitTable) (names : List (List ℕ)) → Stands old document
     → (AreTags old.tags → AreTags new)
     → new ≡ record old.tags { tags = tags_left names old.tags.tags } → slots ≡ slots_deleted old.tags.tags names →
-    content ≡ cleared slots old.content → log ≡ old.journal.log
-    → Leaves limits (relogged (retagged old new content) log) document (Ok Empty) (tag_delete document names)
-leaves-deleted {old} {new} {content} {log} {document} {slots} limits names stands sound table gone clear same =
+    state.content ≡ cleared slots old.content → state.anchors ≡ old.journal.anchors → state.log ≡ old.journal.log
+    → Leaves limits (with_state (with_tags new old) state) document (Ok Empty) (tag_delete document names)
+leaves-deleted {old} {new} {state} {document} {slots} limits names stands sound table gone clear held same =
     let seats = old.seats.entries in
     let kept = stands.sound.kept in
     let left : Tags = record old.tags { tags = tags_left names old.tags.tags } in
     let store : Content = cleared (slots_deleted old.tags.tags names) old.content in
-    let content_is : content ≡ store = clear ∙ ap (λ ss. cleared ss old.content) gone in
+    let content_is : state.content ≡ store = clear ∙ ap (λ ss. cleared ss old.content) gone in
     let lone : Document = document_of old in
     let cells = keyed-deleted seats old.tags names old.content.cells kept.seats kept.tags in
     let with_left : Document → Document = λ document.
@@ -98,6 +100,5 @@ leaves-deleted {old} {new} {content} {log} {document} {slots} limits names stand
           old.content.cells;
     })
     (λ few. omega (arith, count, few)) (ap (λ (d : Document). answered d Empty) (sym whole)) in
-    leaves-relogged limits (retagged old new content) log document (tag_delete document names) same
-    (subst (λ (p : Parts). Leaves limits p document (Ok Empty) (tag_delete document names)) (λ i.
-    retagged old (sym table i) (sym content_is i)) done)
+    subst (λ (parts : Parts). Leaves limits parts document (Ok Empty) (tag_delete document names)) (λ i.
+    with_state (with_tags (sym table i) old) (state_of (sym content_is i) (sym held i) (sym same i))) done

@@ -8,7 +8,6 @@ ghost use Rattle.documents.specs.Documents.{widget_at};
 ghost use Rattle.documents.specs.Views.{shown};
 ghost use Rattle.documents.specs.Promise.{Does};
 ghost use Rattle.documents.specs.Told.{reply_of, IsTold};
-ghost use Rattle.edit_ops.specs.Tagging.{tagged};
 ghost use Rattle.tcl_words.specs.ListText.{list_text};
 ghost use Rattle.tcl_words.specs.Unread.{texts_of};
 ghost use Rattle.text_index.specs.Parts.{part_of};
@@ -173,21 +172,14 @@ impl<S: TextStore> Document<S> {
             (add_spans caller.now.limits.now self.old (widget_at self.old caller.now.seat) (chars name.now)
             places.now) self.old self.new result }
     {
-        let number = self.seats.number(caller.seat);
-        let spans = self.spans_at(caller.seat, places)?;
-        let tags = self.span_tags(caller, name, &spans, true)?;
+        let own = TagSlot(self.seats.number(caller.seat));
+        let ranges = self.spans_at(caller.seat, places)?;
+        let spans = ranges.as_slice();
+        let told = self.span_tags(caller, name, spans, true)?;
         let front = self.tags.len();
         let rules = caller.rules(self.alloc, self.settings);
-        let tagged = tag_spans(
-            &rules,
-            &mut self.tags,
-            TagSlot(number),
-            &mut self.text,
-            name,
-            &spans,
-        );
-        match tagged {
-            Ok(()) => Ok(EditTold::of_tags(self.alloc, tags)),
+        match tag_spans(&rules, &mut self.tags, own, &mut self.text, name, spans) {
+            Ok(()) => Ok(told),
             Err(fault) => {
                 self.tags.truncate(front);
                 Err(fault)
@@ -211,14 +203,15 @@ impl<S: TextStore> Document<S> {
             (remove_spans self.old (widget_at self.old caller.now.seat) (chars name.now) places.now)
             self.old self.new result }
     {
-        let number = self.seats.number(caller.seat);
-        let Some(slot) = find_tag(&self.tags, TagSlot(number), name) else {
+        let own = TagSlot(self.seats.number(caller.seat));
+        let Some(slot) = find_tag(&self.tags, own, name) else {
             return Ok(EditTold::nothing(self.alloc));
         };
-        let spans = self.spans_at(caller.seat, places)?;
-        let tags = self.span_tags(caller, name, &spans, false)?;
-        set_slot(self.alloc, &mut self.text, &spans, slot, false)?;
-        Ok(EditTold::of_tags(self.alloc, tags))
+        let ranges = self.spans_at(caller.seat, places)?;
+        let spans = ranges.as_slice();
+        let told = self.span_tags(caller, name, spans, false)?;
+        set_slot(self.alloc, &mut self.text, spans, slot, false)?;
+        Ok(told)
     }
 
     /// Deletes tags, and removes them from all characters. `sel` and unknown names are skipped. Returns what that

@@ -1,6 +1,6 @@
 //! Reports of commands that change tags.
 
-ghost use Rattle.std.specs.Prelude.{◌≡◌, ◌<◌, Some, true, chars, length, IfOk};
+ghost use Rattle.std.specs.Prelude.{◌≡◌, ◌<◌, [], Some, true, chars, length, IfOk};
 ghost use Rattle.std.specs.List.{All};
 ghost use Rattle.tcl_words.specs.Unread.{texts_of};
 ghost use Rattle.edit_ops.specs.Tagging.{SpanFits};
@@ -8,7 +8,7 @@ ghost use Rattle.documents.specs.Documents.{widget_at};
 ghost use Rattle.reports.specs.Cells.{with_tag};
 ghost use Rattle.documents.specs.Names.{key_of};
 ghost use Rattle.documents.specs.Tags.{tag_delete};
-ghost use Rattle.reports.specs.TagsTold.{AreGapped, TellsTags};
+ghost use Rattle.reports.specs.Told.{TellsCells};
 ghost use Rattle.documents.specs.Told.{Foretells};
 
 use crate::callers::Caller;
@@ -27,25 +27,24 @@ impl<S: TextStore> Document<S> {
         name: &str,
         spans: &[Span],
         on: bool,
-    ) -> Result<TagList, AllocError>
+    ) -> Result<EditTold, AllocError>
         requires shown { caller.now.seat < length self.now.widgets }
         requires fit { All (SpanFits (length self.now.cells)) spans.now }
-        ensures tells { let key = key_of (widget_at self.now caller.now.seat) (chars name.now) in
-            caller.now.follows ≡ true → IfOk result (λ told. TellsTags told self.now.cells
-            (with_tag key on spans.now self.now.cells)) }
-        ensures gapped { IfOk result AreGapped }
+        ensures { let key = key_of (widget_at self.now caller.now.seat) (chars name.now) in
+            caller.now.follows ≡ true → IfOk result
+            (TellsCells [] self.now.cells (with_tag key on spans.now self.now.cells)) }
     {
-        let mut told = TagList::new(self.alloc);
         if !caller.follows {
-            return Ok(told);
+            return Ok(EditTold::nothing(self.alloc));
         }
-        let key = Key::named(self.alloc, self.seats.name(caller.seat), name)?;
+        let mut tags = TagList::new(self.alloc);
+        let key = Key::named(self.alloc, self.widget_name(caller.seat), name)?;
         let runs = union(self.alloc, spans)?;
         match find_tag(&self.tags, TagSlot(self.seats.number(caller.seat)), name) {
-            Some(slot) => told.push_spans(&self.text.store, slot, &key, &runs, on)?,
-            None => told.push_whole(&key, &runs, on)?,
+            Some(slot) => tags.push_spans(&self.text.store, slot, &key, &runs, on)?,
+            None => tags.push_whole(&key, &runs, on)?,
         }
-        Ok(told)
+        Ok(EditTold::of_tags(self.alloc, tags))
     }
 
     /// What `delete_tags` changes.

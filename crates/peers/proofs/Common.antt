@@ -48,7 +48,7 @@ pub use Rattle.documents.proofs.ToldPlaceLaws.{replaced-taken, still-taken}
 pub use Rattle.documents.proofs.UndoRunLaws.{AnswersFor, after_times, by_found, by_name, undone-redone}
 pub use Rattle.documents.specs.Deletions.{delete_places, replace_span}
 pub use Rattle.documents.specs.Documents.{Document, Widget, no_widget, widget_at}
-pub use Rattle.documents.specs.History.{edit_redo, edit_reset, edit_undo, modified_set}
+pub use Rattle.documents.specs.History.{edit_redo, edit_reset, edit_undo, group_found, modified_set, with_group}
 pub use Rattle.documents.specs.Indices.{place_at}
 pub use Rattle.documents.specs.Kept.{is_window_name}
 pub use Rattle.documents.specs.Listing.{is_filled}

@@ -17,13 +17,12 @@ use Rattle.peers.proofs.Common.{peer_settings, peer_with, peer_words, changed, c
 use Rattle.peers.proofs.Common.{create_with, destroy_shaped, on_found, on_home, on_widget, step, home, modified_set}
 use Rattle.peers.proofs.Common.{all_windows, first_settings, bare_document, subcommand, refuses, new_document, eqb-true}
 use Rattle.peers.proofs.Common.{configure, delete, gravity_asked, gravity_given, mark_set, replace, tag_add, tag_remove}
-use Rattle.peers.proofs.Common.{slice_index_or, zero, is_idle, tags_with, within_limits, known_or, set_found}
-use Rattle.peers.proofs.Common.{next_redo, next_undo, total, with_name, NoSuchTag, TextTooLong, TooManyMarks}
-use Rattle.peers.proofs.Common.{TooManyTags, modified_word, NamesWindow, Gravity, Place, gravity_of, bad_or, shape_in}
-use Rattle.peers.proofs.Common.{text_entry, destroy_entry, characters, joined_text, insert}
+use Rattle.peers.proofs.Common.{slice_index_or, zero, is_idle, tags_with, within_limits, known_or, set_found, next_redo}
+use Rattle.peers.proofs.Common.{next_undo, total, with_name, NoSuchTag, TextTooLong, TooManyMarks, TooManyTags}
+use Rattle.peers.proofs.Common.{modified_word, NamesWindow, Gravity, Place, gravity_of, bad_or, shape_in, text_entry}
+use Rattle.peers.proofs.Common.{destroy_entry, characters, joined_text, insert, group_found, with_group}
 use Rattle.edit_ops.specs.Replays.{replays}
 use Rattle.edit_ops.specs.Told.{deletion, insertion}
-use Rattle.documents.specs.History.{group_found, with_group}
 use Rattle.documents.specs.Promise.{edited}
 use Rattle.command_table.specs.declared.shapes.ShapeFault.TheVariants.{WrongArguments}
 use Rattle.undo_stack.specs.declared.actions.Action.{Action}

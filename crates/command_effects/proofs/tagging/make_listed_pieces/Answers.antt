@@ -1,7 +1,6 @@
-use Rattle.command_effects.proofs.Common.{ap, sym, ◌∙◌, subst, arith, ◌+◌, ◌<◌, ◌++◌, ◌∷◌, [], length, map, map-append}
-use Rattle.command_effects.proofs.Common.{names_of, all_names, listed_names, with_names, piece_of, append_assoc}
-use Rattle.command_effects.proofs.Common.{err_from_is_err_and}
-use Rattle.command_effects.proofs.MadeLaws.{front_on, listed-push, too_many_before}
+use Rattle.command_effects.proofs.Common.{ap, sym, ◌∙◌, arith, ◌+◌, ◌++◌, ◌∷◌, [], map, map-append, names_of, all_names}
+use Rattle.command_effects.proofs.Common.{listed_names, with_names, piece_of, append_assoc, err_from_is_err_and}
+use Rattle.command_effects.proofs.MadeLaws.{front_on, too_many, with_names-append}
 use Rattle.command_effects.proofs.tagging.make_listed_pieces.Goals as goal
 
 pub returns-in_err-make_piece-clause-fault : goal.returns-in_err-make_piece-clause-fault
@@ -10,32 +9,26 @@ returns-in_err-make_piece-clause-fault c =
     let fault = err_from_is_err_and from.result from.ensures.1 in
     rw (fault.1, fault.2) (λ other.
     let found = c.in_err-make_piece.ensures.fault other in
-    let names = names_of c.args.tags.now.tags in
-    let l = c.loop-pair in
-    let whole = l.invariant.whole ∙ ap (λ ps. l.yielded ++ ps) c.in-Some.ensures.steps.0
-    ∙ sym (append_assoc l.yielded (c.in-Some.pair ∷ []) c.next.new.self.rest.items) in (
+    let l = c.loop-pair in (
       found.0,
-      subst (λ ps. c.args.tags.now.limit + 1 < length (with_names names (all_names ps))) (sym whole)
-          (too_many_before names (l.yielded ++ c.in-Some.pair ∷ []) c.next.new.self.rest.items
-          (c.args.tags.now.limit + 1) (omega (
-            arith,
-            found.1,
-            ap length (listed-push names l.yielded c.in-Some.pair),
-            ap (λ ns. length (with_names ns (listed_names c.in-Some.pair.names))) l.invariant.made,
-            l.invariant.front.limit,
-          ))),
+      too_many (names_of l.tags.tags) (listed_names c.in-Some.pair.names) (all_names c.next.new.self.rest.items) _
+          (c.args.tags.now.limit + 1) (omega (arith, found.1, l.invariant.front.limit))
+          (ap (λ ps. with_names (names_of l.tags.tags) (all_names ps)) (sym c.in-Some.ensures.steps.0)
+          ∙ l.invariant.made),
     ))
 
 pub loop-pair-preserved : goal.loop-pair-preserved
 loop-pair-preserved c =
-    let names = names_of c.args.tags.now.tags in
     let l = c.loop-pair in
+    let rest = c.next.new.self.rest.items in
     record {
       whole = l.invariant.whole ∙ ap (λ ps. l.yielded ++ ps) c.in-Some.ensures.steps.0
-          ∙ sym (append_assoc l.yielded (c.in-Some.pair ∷ []) c.next.new.self.rest.items);
+          ∙ sym (append_assoc l.yielded (c.in-Some.pair ∷ []) rest);
       front = front_on c.args.tags.now l.tags c.make_piece.new.tags l.invariant.front c.make_piece.ensures.front;
-      made = c.in_ok-make_piece.ensures.made ∙ ap (λ ns. with_names ns (listed_names c.in-Some.pair.names)) l.invariant.made
-          ∙ listed-push names l.yielded c.in-Some.pair;
+      made = ap (λ ns. with_names ns (all_names rest)) c.in_ok-make_piece.ensures.made
+          ∙ sym (with_names-append (names_of l.tags.tags) (listed_names c.in-Some.pair.names) (all_names rest))
+          ∙ ap (λ ps. with_names (names_of l.tags.tags) (all_names ps)) (sym c.in-Some.ensures.steps.0)
+          ∙ l.invariant.made;
       pieces = λ later front.
           let piece_there = piece_of later.tags c.args.own.0 in
           c.in_ok-push.ensures.items

@@ -5,6 +5,7 @@ abbrev pub invariant-loop-pair : goal.invariant-loop-pair
 invariant-loop-pair l = record {
   whole : l.fn.pairs.items ≡ l.yielded ++ l.pair-iterator.rest.items;
   front : IsFront l.fn.tags l.tags;
-  made : names_of l.tags.tags ≡ with_names (names_of l.fn.tags.tags) (all_names l.yielded);
+  made : with_names (names_of l.tags.tags) (all_names l.pair-iterator.rest.items)
+      ≡ with_names (names_of l.fn.tags.tags) (all_names l.fn.pairs.items);
   pieces : (later : Tags) → IsFront l.tags later → l.pieces.items ≡ map (piece_of later.tags l.own.0) l.yielded;
 }
